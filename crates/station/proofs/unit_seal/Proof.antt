@@ -1,0 +1,26 @@
+use borrow.Author.Needs.{needs}
+use Rattle.station.proofs.Telling.{told-new, told-held}
+use Rattle.station.proofs.unit_seal.Statement.{statement}
+use Rattle.station.proofs.unit_seal.Tie as tie
+
+seal-requires : tie.Need-seal-requires
+seal-requires c κs = search needs
+
+same-length : tie.Need-same-length
+same-length c = search needs
+
+returns : tie.Need-returns
+returns c =
+    let r = c .before .before .before .seal .ensures in
+    record { answer-is = r .answer-is; edge-is = told-new _ (r .answer-is) (c .if1 .taken) (r .edge-is); memory-is = r .memory-is }
+
+same-length-2 : tie.Need-same-length-2
+same-length-2 c = search needs
+
+returns-2 : tie.Need-returns-2
+returns-2 c =
+    let r = c .before .before .before .seal .ensures in
+    record { answer-is = r .answer-is; edge-is = told-held _ _ (r .answer-is) (c .if1 .left); memory-is = r .memory-is }
+
+pub unit-seal-spec : {M : Type 1} → statement M
+unit-seal-spec = tie.close (tie.spec seal-requires same-length returns same-length-2 returns-2)

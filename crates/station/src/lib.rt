@@ -1,0 +1,80 @@
+// The unit for a station's own C program: numbers and byte slices. A slice is a pointer and then a length.
+ghost use Rattle.unit.specs.Promises.{IsFresh, IsWritten, IsTrimmed, IsPruned};
+ghost use Rattle.station.specs.Told.{IsTold, IsSealTold};
+use num::count::Epoch;
+use num::count::Position;
+use unit::fresh::fresh;
+use unit::prune::prune;
+use unit::read::read;
+use unit::seal::seal;
+use unit::trim::trim;
+use unit::write::write;
+
+#[no_mangle]
+pub extern "C" fn unit_fresh(mem: &mut [u8], number: u32) -> u8
+    ensures { λ r. ⌜ IsFresh (now (mem .entry)) number r (now (mem .exit)) ⌝ }
+{
+    fresh(mem, number)
+}
+
+#[no_mangle]
+pub extern "C" fn unit_write(
+    mem: &mut [u8],
+    epoch: u32,
+    position: u64,
+    kind: u8,
+    bytes: &[u8],
+) -> u8
+    ensures { λ r. ⌜ IsWritten (now (mem .entry)) epoch position kind (now (bytes .entry)) r (now (mem .exit)) ⌝ }
+{
+    write(mem, Epoch(epoch), Position(position), kind, bytes)
+}
+
+// `start` and `length` say where in `mem` the payload lies. On a refusal the three numbers keep what they held.
+#[no_mangle]
+pub extern "C" fn unit_read(
+    mem: &[u8],
+    epoch: u32,
+    position: u64,
+    kind: &mut u8,
+    start: &mut u64,
+    length: &mut u64,
+) -> u8
+    ensures { λ r. ⌜ IsTold (now (mem .entry)) epoch position (now (kind .entry)) (now (start .entry)) (now (length .entry)) r (now (kind .exit)) (now (start .exit)) (now (length .exit)) ⌝ }
+{
+    let seen = read(mem, Epoch(epoch), Position(position));
+    let answer = seen.answer;
+    if answer == 0 {
+        *kind = seen.kind;
+        *start = seen.start as u64;
+        *length = seen.length as u64;
+    }
+    answer
+}
+
+#[no_mangle]
+pub extern "C" fn unit_trim(mem: &mut [u8], epoch: u32, position: u64) -> u8
+    ensures { λ r. ⌜ IsTrimmed (now (mem .entry)) epoch position r (now (mem .exit)) ⌝ }
+{
+    trim(mem, Epoch(epoch), Position(position))
+}
+
+#[no_mangle]
+pub extern "C" fn unit_prune(mem: &mut [u8], epoch: u32, position: u64) -> u8
+    ensures { λ r. ⌜ IsPruned (now (mem .entry)) epoch position r (now (mem .exit)) ⌝ }
+{
+    prune(mem, Epoch(epoch), Position(position))
+}
+
+// On a refusal `edge` keeps what it held.
+#[no_mangle]
+pub extern "C" fn unit_seal(mem: &mut [u8], epoch: u32, edge: &mut u64) -> u8
+    ensures { λ r. ⌜ IsSealTold (now (mem .entry)) epoch (now (edge .entry)) r (now (edge .exit)) (now (mem .exit)) ⌝ }
+{
+    let done = seal(mem, Epoch(epoch));
+    let answer = done.answer;
+    if answer == 0 {
+        *edge = done.edge;
+    }
+    answer
+}

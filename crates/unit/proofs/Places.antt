@@ -1,0 +1,214 @@
+-- Laws of slots by position: the loop that counts the slots before a position, and what `lookup` finds there.
+use Prim.Native.Nat.{ℕ, zero, suc, _+_, _*_, _-_, _<_, _≤_}
+use mathlib.Core.Bool.{Bool, true, false, _&&_, cond}
+use mathlib.Core.List.{List, [], _∷_}
+use mathlib.Core.Path.{_≡_, refl, sym, ap, _∙_}
+use native.Mathlib.Omega.{arith}
+use native.Mathlib.Nat.{add-assoc, sub-zero, zero-add, zero-mul, not-suc-le-zero, le-of-suc-le-suc, mul-le-mul-right, le-trans}
+use native.Mathlib.Numerals.{add-one}
+use borrow.Author.Tests.{ltb-true, ltb-false, eqb-true, eqb-false, eq-eqb, ne-eqb, lt-ltb, le-ltb}
+use lib.Dec.{leb, ltb, eqb, leb·suc-suc}
+use lib.ListN.{length, getD, take, drop}
+use lib.Seq.{getD-drop, drop-drop}
+use Rattle.num.specs.Bytes.{le}
+use Rattle.unit.specs.Shape.{Shape, slotSize}
+use Rattle.unit.specs.State.{Slot, nothing, lookup, before}
+use Rattle.unit.specs.Memory.{slotAt, slotsAt, goodSlot, goodSlots, good, decode, placeOf, countOf, floorOf}
+use Rattle.num.proofs.Tests.{left-step, and-both}
+use Rattle.unit.proofs.Goodness.{FieldsGood, slot-fields, is-good}
+
+pub slots-length : (sh : Shape) (n : ℕ) (xs : List ℕ) → length (slotsAt sh n xs) ≡ n
+unfolding slotsAt
+slots-length sh zero xs = refl
+slots-length sh (suc n) xs = ap suc (slots-length sh n (drop (slotSize sh) xs))
+
+-- one slot of the count
+pub before-step : (sh : Shape) (n p : ℕ) (xs : List ℕ)
+    → before p (slotsAt sh (suc n) xs) ≡ cond (ltb (le 8 xs) p) (suc (before p (slotsAt sh n (drop (slotSize sh) xs)))) 0
+unfolding slotsAt slotAt before
+before-step sh n p xs = refl
+
+-- The loop that counts the slots before p: i of them are passed, and the next stands at offset `at`.
+pub record Sought (sh : Shape) (m : List ℕ) (count p i at : ℕ) : Type 0 where
+  pub rest : before p (slotsAt sh count (drop 24 m)) ≡ i + before p (slotsAt sh (count - i) (drop at m))
+  pub place : at ≡ 24 + i * slotSize sh
+  pub bound : i ≤ count
+
+pub sought-none : (sh : Shape) (m : List ℕ) (count p : ℕ) → Sought sh m count p 0 24
+sought-none sh m count p = record { rest = rw (sub-zero, zero-add); place = omega arith; bound = omega arith }
+
+module _ {sh : Shape} {m : List ℕ} {count p i at : ℕ} (k : Sought sh m count p i at) where
+  sought-step : i < count → before p (slotsAt sh count (drop 24 m))
+      ≡ i + cond (ltb (le 8 (drop at m)) p) (suc (before p (slotsAt sh (count - suc i) (drop (at + slotSize sh) m)))) 0
+  sought-step h = k .rest ∙ rw (left-step count i h, before-step sh (count - suc i) p (drop at m), drop-drop)
+
+  pub sought-stop : (q : ℕ) → i < count → q ≡ le 8 (drop at m) → p ≤ q → i ≡ before p (slotsAt sh count (drop 24 m))
+  sought-stop q h e l =
+      let b : p ≤ le 8 (drop at m) = rw e at l in
+      sym (sought-step h ∙ rw (le-ltb _ _ b) (omega arith))
+
+  pub sought-more : (q : ℕ) → i < count → q ≡ le 8 (drop at m) → q < p → Sought sh m count p (i + 1) (at + slotSize sh)
+  sought-more q h e l =
+      let b : le 8 (drop at m) < p = rw e at l in
+      let s = rw (lt-ltb _ _ b) at (sought-step h) in
+      record { rest = rw add-one (omega arith); place = rw (k .place) (omega arith); bound = omega arith }
+
+  pub sought-all : count ≤ i → i ≡ before p (slotsAt sh count (drop 24 m))
+  unfolding slotsAt before
+  sought-all h =
+      let e : count - i ≡ 0 = omega arith in
+      sym (k .rest ∙ rw e (omega arith))
+
+-- ---- what stands there
+
+pub good-step : (sh : Shape) (n low : ℕ) (xs : List ℕ) → goodSlots sh (suc n) low xs ≡ true
+    → (goodSlot (sh .cap) low xs ≡ true) × (goodSlots sh n (le 8 xs + 1) (drop (slotSize sh) xs) ≡ true)
+unfolding goodSlots
+good-step sh n low xs h = and-both (goodSlot (sh .cap) low xs) (goodSlots sh n (le 8 xs + 1) (drop (slotSize sh) xs)) h
+
+pub lookup-step : (sh : Shape) (n p : ℕ) (xs : List ℕ)
+    → lookup p (slotsAt sh (suc n) xs) ≡ cond (eqb (le 8 xs) p) (slotAt xs) (lookup p (slotsAt sh n (drop (slotSize sh) xs)))
+unfolding slotsAt slotAt lookup
+lookup-step sh n p xs = refl
+
+-- no slot stands below the least position
+pub lookup-below : (sh : Shape) (n low p : ℕ) (xs : List ℕ) → goodSlots sh n low xs ≡ true → p < low → lookup p (slotsAt sh n xs) ≡ nothing
+unfolding slotsAt lookup
+lookup-below sh zero low p xs g h = refl
+lookup-below sh (suc n) low p xs g h =
+    let (a, b) = good-step sh n low xs g in
+    let f = slot-fields (sh .cap) low xs a in
+    let e : le 8 xs ≡ p → ⊥ = omega arith in
+    lookup-step sh n p xs ∙ rw (ne-eqb _ _ e) (lookup-below sh n (le 8 xs + 1) p (drop (slotSize sh) xs) b (omega arith))
+
+-- the slot that `lookup` finds, or nothing, at the place of p
+abbrev pub found : ℕ → ℕ → ℕ → List ℕ → Slot
+found n k p ys = cond (ltb k n) (cond (eqb (le 8 ys) p) (slotAt ys) nothing) nothing
+
+found-next : (sh : Shape) (n k p : ℕ) (xs : List ℕ)
+    → found (suc n) (suc k) p (drop (suc k * slotSize sh) xs) ≡ found n k p (drop (k * slotSize sh) (drop (slotSize sh) xs))
+found-next sh n k p xs =
+    let e : suc k * slotSize sh ≡ slotSize sh + k * slotSize sh = omega arith in
+    rw (e, drop-drop, leb·suc-suc)
+
+found-here : (sh : Shape) (n p : ℕ) (xs : List ℕ) → found (suc n) 0 p (drop (0 * slotSize sh) xs) ≡ cond (eqb (le 8 xs) p) (slotAt xs) nothing
+found-here sh n p xs = rw (zero-mul, lt-ltb 0 (suc n) (omega arith))
+
+pub lookup-at : (sh : Shape) (n low p : ℕ) (xs : List ℕ) → goodSlots sh n low xs ≡ true → (k : ℕ) → k ≡ before p (slotsAt sh n xs)
+    → lookup p (slotsAt sh n xs) ≡ found n k p (drop (k * slotSize sh) xs)
+unfolding slotsAt lookup before
+lookup-at sh zero low p xs g k e = rw e
+lookup-at sh (suc n) low p xs g k e =
+    go (ltb (le 8 xs) p) refl (eqb (le 8 xs) p) refl (λ j q. lookup-at sh n (le 8 xs + 1) p (drop (slotSize sh) xs) (good-step sh n low xs g .1) j q)
+  where
+    rest : List ℕ
+    rest = drop (slotSize sh) xs
+
+    go : (b : Bool) → ltb (le 8 xs) p ≡ b → (c : Bool) → eqb (le 8 xs) p ≡ c
+        → ((j : ℕ) → j ≡ before p (slotsAt sh n rest) → lookup p (slotsAt sh n rest) ≡ found n j p (drop (j * slotSize sh) rest))
+        → lookup p (slotsAt sh (suc n) xs) ≡ found (suc n) k p (drop (k * slotSize sh) xs)
+    go true l c q ih =
+        let f : le 8 xs ≡ p → ⊥ = omega (arith, ltb-true (le 8 xs) p l) in
+        let k1 : k ≡ suc (before p (slotsAt sh n rest)) = e ∙ (rw l at (before-step sh n p xs)) in
+        rw (lookup-step sh n p xs, ne-eqb _ _ f, k1, found-next sh n (before p (slotsAt sh n rest)) p xs) (ih (before p (slotsAt sh n rest)) refl)
+    go false l true q ih =
+        let k0 : k ≡ 0 = e ∙ (rw l at (before-step sh n p xs)) in
+        rw (lookup-step sh n p xs, k0, found-here sh n p xs, q)
+    go false l false q ih =
+        let k0 : k ≡ 0 = e ∙ (rw l at (before-step sh n p xs)) in
+        let lt : p < le 8 xs + 1 = omega (arith, ltb-false (le 8 xs) p l) in
+        rw (lookup-step sh n p xs, k0, found-here sh n p xs, q) (lookup-below sh n (le 8 xs + 1) p rest (good-step sh n low xs g .1) lt)
+
+pub before-le : (p : ℕ) (ss : List Slot) → before p ss ≤ length ss
+unfolding before
+before-le p [] = omega arith
+before-le p (s ∷ ss) = go (ltb (s .position) p) (before-le p ss)
+  where
+    go : (b : Bool) → before p ss ≤ length ss → cond b (suc (before p ss)) 0 ≤ suc (length ss)
+    go true h = omega arith
+    go false h = omega arith
+
+-- each used slot is good, from some least position on
+pub good-at : (sh : Shape) (n low : ℕ) (xs : List ℕ) (k : ℕ) → goodSlots sh n low xs ≡ true → k < n
+    → (l : ℕ) × (goodSlot (sh .cap) l (drop (k * slotSize sh) xs) ≡ true)
+good-at sh zero low xs k g h = absurd (not-suc-le-zero h)
+good-at sh (suc n) low xs zero g h = (low, rw zero-mul (good-step sh n low xs g .0))
+good-at sh (suc n) low xs (suc k) g h =
+    let e : suc k * slotSize sh ≡ slotSize sh + k * slotSize sh = omega arith in
+    let (l, t) = good-at sh n (le 8 xs + 1) (drop (slotSize sh) xs) k (good-step sh n low xs g .1) (le-of-suc-le-suc h) in
+    let y : drop (k * slotSize sh) (drop (slotSize sh) xs) ≡ drop (suc k * slotSize sh) xs = rw (drop-drop, e) in
+    (l, rw y at t)
+
+-- ---- a position in good memory: n slots are used, k of them stand before p, and the next is at offset `at`
+pub record Placed (sh : Shape) (m : List ℕ) (p n k at : ℕ) : Type 0 where
+  pub isGood : good sh m ≡ true
+  pub used : n ≡ countOf m
+  pub index : k ≡ before p (slotsAt sh n (drop 24 m))
+  pub offset : at ≡ 24 + k * slotSize sh
+
+module _ {sh : Shape} {m : List ℕ} {p n k at : ℕ} (f : Placed sh m p n k at) where
+  pub placed-bound : k ≤ n
+  placed-bound = omega (arith, f .index, before-le p (slotsAt sh n (drop 24 m)), slots-length sh n (drop 24 m))
+
+  pub placed-at : at ≡ placeOf sh m p
+  unfolding placeOf decode
+  placed-at = f .offset ∙ rw (f .index, f .used)
+
+  placed-slot : lookup p (decode sh m .slots) ≡ found n k p (drop at m)
+  unfolding decode
+  placed-slot =
+      let e : found n k p (drop (k * slotSize sh) (drop 24 m)) ≡ found n k p (drop at m) = rw (drop-drop, ← f .offset) in
+      rw (← f .used) (lookup-at sh n (floorOf m) p (drop 24 m) (rw (f .used) (is-good sh m (f .isGood) .slots)) k (f .index) ∙ e)
+
+  pub placed-past : n ≤ k → lookup p (decode sh m .slots) ≡ nothing
+  placed-past h = placed-slot ∙ rw (le-ltb k n h)
+
+  pub placed-other : (q : ℕ) → k < n → q ≡ le 8 (drop at m) → (q ≡ p → ⊥) → lookup p (decode sh m .slots) ≡ nothing
+  placed-other q h e d = placed-slot ∙ rw (lt-ltb k n h, ← e, ne-eqb q p d)
+
+  pub placed-hit : (q : ℕ) → k < n → q ≡ le 8 (drop at m) → q ≡ p → lookup p (decode sh m .slots) ≡ slotAt (drop at m)
+  placed-hit q h e d = placed-slot ∙ rw (lt-ltb k n h, ← e, eq-eqb q p d)
+
+  pub placed-kind : (q : ℕ) → k < n → q ≡ le 8 (drop at m) → q ≡ p → getD m (at + 8) 0 ≡ lookup p (decode sh m .slots) .kind
+  unfolding slotAt
+  placed-kind q h e d = rw (placed-hit q h e d) (sym (getD-drop at m 8 0))
+
+-- a slot that is held: it stands at its place, within the memory, with no more bytes than a slot has
+pub record Stands (sh : Shape) (m : List ℕ) (p at : ℕ) : Type 0 where
+  pub slot : lookup p (decode sh m .slots) ≡ slotAt (drop at m)
+  pub within : at + slotSize sh ≤ length m
+  pub short : getD m (at + 9) 0 ≤ sh .cap
+
+found-held : (n k p : ℕ) (ys : List ℕ) → (found n k p ys .kind ≡ 0 → ⊥) → (k < n) × (le 8 ys ≡ p)
+found-held n k p ys h = go (ltb k n) refl (eqb (le 8 ys) p) refl
+  where
+    go : (b : Bool) → ltb k n ≡ b → (c : Bool) → eqb (le 8 ys) p ≡ c → (k < n) × (le 8 ys ≡ p)
+    go true e true q = (ltb-true k n e, eqb-true (le 8 ys) p q)
+    go true e false q = absurd (h (rw (e, q)))
+    go false e c q = absurd (h (rw e))
+
+pub held-stands : (sh : Shape) (m : List ℕ) (p at : ℕ) → good sh m ≡ true → at ≡ placeOf sh m p
+    → (lookup p (decode sh m .slots) .kind ≡ 0 → ⊥) → Stands sh m p at
+unfolding placeOf decode
+held-stands sh m p at g ha h =
+    let n : ℕ = countOf m in
+    let k : ℕ = before p (slotsAt sh n (drop 24 m)) in
+    let f : Placed sh m p n k at = record { isGood = g; used = refl; index = refl; offset = ha } in
+    let (l, q) = found-held n k p (drop at m) (rw (placed-slot f) at h) in
+    let g′ = is-good sh m g in
+    let (low, t) = good-at sh n (floorOf m) (drop 24 m) k (g′ .slots) l in
+    let y : drop (k * slotSize sh) (drop 24 m) ≡ drop at m = rw (drop-drop, ← ha) in
+    let s = slot-fields (sh .cap) low (drop at m) (rw y at t) in
+    record {
+      slot = placed-hit f (le 8 (drop at m)) l refl q;
+      within = omega (arith, mul-le-mul-right {m = suc k} {n = sh .room} (slotSize sh) (le-trans l (g′ .header .count)));
+      short = rw (← getD-drop at m 9 0) (s .fits);
+    }
+
+-- the bytes of a slot that stands, as a part of the memory
+pub stands-payload : {sh : Shape} {m : List ℕ} {p at : ℕ} → Stands sh m p at
+    → take (at + 16 + getD m (at + 9) 0 - (at + 16)) (drop (at + 16) m) ≡ lookup p (decode sh m .slots) .payload
+unfolding slotAt
+stands-payload {sh} {m} {p} {at} s =
+    let e : at + 16 + getD m (at + 9) 0 - (at + 16) ≡ getD m (at + 9) 0 = omega arith in
+    rw (s .slot, e, ← drop-drop, ← getD-drop at m 9 0)
