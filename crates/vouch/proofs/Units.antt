@@ -1,0 +1,111 @@
+-- What each event does to a unit, and what it leaves alone: so that a unit's memory and the history go together.
+-- Rests on laws A and B.
+use mathlib.Core.Path.{_≡_, refl, sym, ap}
+use mathlib.Core.Bool.{Bool, true, false, cond}
+use Prim.Native.Nat.{_≤_, _<_}
+use lib.Dec.{eqb}
+use borrow.Author.Tests.{eqb-true, eqb-false}
+use Rattle.vouch.specs.Words.{UnitNo, Pos, Epoch, Page, Answer}
+use Rattle.vouch.specs.Words.Answer.{shows, trimmed}
+use Rattle.vouch.specs.Maps.{Map}
+use Rattle.vouch.specs.History.{Note, Event, History, Mark, Marked, Unmarked, sealed}
+use Rattle.vouch.specs.History.Event.{ask, write, trim, prune, seal, install}
+use Rattle.vouch.specs.History.History.{_▹_}
+use Rattle.vouch.specs.History.Mark.{gone}
+use Rattle.vouch.specs.History.Marked.{marked-write, marked-trim, marked-prune, marked-before}
+use Rattle.vouch.specs.Events.{Run}
+use Rattle.vouch.specs.Edges.{Edge}
+use Rattle.vouch.specs.Safety.{Answers}
+use Rattle.vouch.specs.Safety.Answers.{has-page, has-gone, has-none}
+use Rattle.vouch.proofs.Marks.{page-one}
+
+-- ---- what an event touches
+
+-- the event marks u at p
+pub data Touches : Event → UnitNo → Pos → Type 0 where
+  touches-write : {u : UnitNo} {L : Map} {p : Pos} {X : Page} → Touches (write u L p X) u p
+  touches-trim : {u : UnitNo} {L : Map} {p : Pos} → Touches (trim u L p) u p
+  touches-prune : {u : UnitNo} {L : Map} {p q : Pos} → p < q → Touches (prune u L q) u p
+
+-- a write and a trim touch one position of their unit, a prune all below its own, and the other events none
+pub write-touches : {u v : UnitNo} {L : Map} {p q : Pos} {X : Page} → Touches (write u L p X) v q → (v ≡ u) × (q ≡ p)
+write-touches touches-write = (refl, refl)
+
+pub trim-touches : {u v : UnitNo} {L : Map} {p q : Pos} → Touches (trim u L p) v q → (v ≡ u) × (q ≡ p)
+trim-touches touches-trim = (refl, refl)
+
+pub prune-touches : {u v : UnitNo} {L : Map} {p q : Pos} → Touches (prune u L p) v q → (v ≡ u) × (q < p)
+prune-touches (touches-prune below) = (refl, below)
+
+pub ask-touches : {w : Note} {v : UnitNo} {q : Pos} → ¬ Touches (ask w) v q
+ask-touches = elim [ ]
+
+pub seal-touches : {u v : UnitNo} {n : Epoch} {q : Pos} → ¬ Touches (seal u n) v q
+seal-touches = elim [ ]
+
+pub install-touches : {v : UnitNo} {L : Map} {q : Pos} → ¬ Touches (install L) v q
+install-touches = elim [ ]
+
+pub untouched : {h : History} {ev : Event} {u : UnitNo} {p : Pos} {m : Mark} {a : Epoch} → ¬ Touches ev u p → Marked (h ▹ ev) u p m a → Marked h u p m a
+untouched none marked-write = absurd (none touches-write)
+untouched none marked-trim = absurd (none touches-trim)
+untouched none (marked-prune below) = absurd (none (touches-prune below))
+untouched none (marked-before mk) = mk
+
+-- a unit that is not touched at p answers as before, and its edge stays an edge
+pub answers-on : {h : History} {ev : Event} {u : UnitNo} {p : Pos} {r : Answer} → ¬ Touches ev u p → Answers h u p r → Answers (h ▹ ev) u p r
+answers-on none (has-page mk still) = has-page (marked-before mk) (λ b away. still b (untouched none away))
+answers-on none (has-gone mk) = has-gone (marked-before mk)
+answers-on none (has-none unmarked) = has-none (λ m a mk. unmarked m a (untouched none mk))
+
+pub edge-on : {h : History} {ev : Event} {u : UnitNo} {g : Pos} → ((p : Pos) → g ≤ p → ¬ Touches ev u p) → Edge h u g → Edge (h ▹ ev) u g
+edge-on none edge p at m a mk = edge p at m a (untouched (none p at) mk)
+
+-- ---- what it does where it touches
+
+pub write-shows : {h : History} {u : UnitNo} {L : Map} {p : Pos} {X : Page} → Unmarked h u p → Answers (h ▹ write u L p X) u p (shows X)
+write-shows unmarked = has-page marked-write (not-gone unmarked)
+  where
+    not-gone : {h : History} {u : UnitNo} {L : Map} {p : Pos} {X : Page} → Unmarked h u p → (b : Epoch) → ¬ Marked (h ▹ write u L p X) u p gone b
+    not-gone unmarked b (marked-before away) = unmarked gone b away
+
+-- written or not, trimmed or not: afterwards it is trimmed
+pub trim-shows : {h : History} {u : UnitNo} {L : Map} {p : Pos} → Answers (h ▹ trim u L p) u p trimmed
+trim-shows = has-gone marked-trim
+
+pub prune-shows : {h : History} {u : UnitNo} {L : Map} {p q : Pos} → p < q → Answers (h ▹ prune u L q) u p trimmed
+prune-shows below = has-gone (marked-prune below)
+
+-- what is trimmed stays so: a trim of a trimmed position, or a prune up to the floor or below it, changes nothing
+pub trimmed-on : {h : History} {ev : Event} {u : UnitNo} {p : Pos} → Answers h u p trimmed → Answers (h ▹ ev) u p trimmed
+trimmed-on (has-gone mk) = has-gone (marked-before mk)
+
+-- a unit gives one answer
+pub answers-one : {h : History} {u : UnitNo} {p : Pos} {r₁ r₂ : Answer} → Run h → Answers h u p r₁ → Answers h u p r₂ → r₁ ≡ r₂
+answers-one run (has-page mk₁ still₁) (has-page mk₂ still₂) = ap shows (page-one run mk₁ mk₂)
+answers-one run (has-page mk₁ still) (has-gone mk₂) = absurd (still _ mk₂)
+answers-one run (has-page mk none) (has-none unmarked) = absurd (unmarked _ _ mk)
+answers-one run (has-gone mk₁) (has-page mk₂ still) = absurd (still _ mk₁)
+answers-one run (has-gone mk₁) (has-gone mk₂) = refl
+answers-one run (has-gone mk) (has-none unmarked) = absurd (unmarked _ _ mk)
+answers-one run (has-none unmarked) (has-page mk still) = absurd (unmarked _ _ mk)
+answers-one run (has-none unmarked) (has-gone mk) = absurd (unmarked _ _ mk)
+answers-one run (has-none unmarked₁) (has-none unmarked₂) = refl
+
+-- ---- the sealed epoch
+
+pub sealed-now : (h : History) (u : UnitNo) (n : Epoch) → sealed (h ▹ seal u n) u ≡ n
+unfolding sealed
+sealed-now h u n = go (eqb u u) refl
+  where
+    go : (b : Bool) → eqb u u ≡ b → cond b n (sealed h u) ≡ n
+    go true e = refl
+    go false e = absurd (eqb-false u u e refl)
+
+pub sealed-other : (h : History) (u v : UnitNo) (n : Epoch) → ¬ (v ≡ u) → sealed (h ▹ seal u n) v ≡ sealed h v
+unfolding sealed
+sealed-other h u v n ne = go (eqb u v) refl
+  where
+    go : (b : Bool) → eqb u v ≡ b → cond b n (sealed h v) ≡ sealed h v
+    go true e = absurd (ne (sym (eqb-true u v e)))
+    go false e = refl

@@ -1,0 +1,7 @@
+-- Demand 3, layer 1: the history of a shared log. What a reader must believe, top to bottom; the laws are in proofs/.
+pub mod Words
+pub mod Maps
+pub mod History
+pub mod Events
+pub mod Edges
+pub mod Safety
