@@ -1,0 +1,268 @@
+/*
+ * A station box that keeps its unit's memory in a file: box FOLDER
+ *
+ * It makes the memory fresh, writes pages, starts again from the file, reads the pages back, trims, prunes and seals, and
+ * shows each refusal by its name. It prints an account of all this, and ends with 1 where something is not as it should be.
+ */
+#define _POSIX_C_SOURCE 200809L
+#include <fcntl.h>
+#include <inttypes.h>
+#include <stdio.h>
+#include <stdlib.h>
+#include <string.h>
+#include <unistd.h>
+
+#include "station.h"
+
+/* ---- the box: the memory, and the file that keeps it */
+
+struct box {
+    uint8_t mem[STATION_MEMORY];
+    const char *folder;
+    char file[1024], second[1024];
+};
+
+static void stop(const char *why)
+{
+    fflush(stdout);
+    fprintf(stderr, "box: %s\n", why);
+    exit(1);
+}
+
+/* Has the system write a folder's new names to the disk; O_RDONLY is the one flag that is the same everywhere. */
+static int sync_folder(const char *folder)
+{
+    int fd = open(folder, O_RDONLY);
+    int done = fd >= 0 && fsync(fd) == 0;
+    if (fd >= 0)
+        close(fd);
+    return done;
+}
+
+/* Makes the memory durable as a whole or not at all: into a second file, and that in the first one's place. A box that
+   cannot stops without an answer, and when it starts again it has the memory from before. */
+static void keep(const struct box *box)
+{
+    FILE *f = fopen(box->second, "wb");
+    if (!f)
+        stop("cannot open the second file");
+    int done = fwrite(box->mem, 1, STATION_MEMORY, f) == STATION_MEMORY && fflush(f) == 0 && fsync(fileno(f)) == 0;
+    if (fclose(f) != 0 || !done)
+        stop("cannot write the second file");
+    if (rename(box->second, box->file) != 0 || !sync_folder(box->folder))
+        stop("cannot put the second file in its place");
+}
+
+/* What a box does when it starts: its memory is what the file has, and nothing else. */
+static void restart(struct box *box)
+{
+    memset(box->mem, 0xAA, STATION_MEMORY); /* nothing of what the memory held before is left */
+    FILE *f = fopen(box->file, "rb");
+    if (!f)
+        stop("cannot open the file");
+    size_t got = fread(box->mem, 1, STATION_MEMORY, f);
+    int more = fgetc(f) != EOF;
+    fclose(f);
+    if (got != STATION_MEMORY || more)
+        stop("the file has not the size of a unit's memory");
+    printf("\nThe box starts again from its file.\n");
+}
+
+/* ---- the account */
+
+static const char *name_of(uint8_t answer)
+{
+    switch (answer) {
+    case UNIT_ANSWER_FINE: return "fine";
+    case UNIT_ANSWER_MEMORY: return "memory";
+    case UNIT_ANSWER_POSITION: return "position";
+    case UNIT_ANSWER_PAGE: return "page";
+    case UNIT_ANSWER_SEALED: return "sealed";
+    case UNIT_ANSWER_TRIMMED: return "trimmed";
+    case UNIT_ANSWER_WRITTEN: return "written";
+    case UNIT_ANSWER_UNWRITTEN: return "unwritten";
+    case UNIT_ANSWER_FULL: return "full";
+    case UNIT_ANSWER_NOBODY: return "nobody";
+    default: return "a number that no unit answers";
+    }
+}
+
+static void tell(const char *what, uint8_t answer)
+{
+    printf("  %-48s %2u %s\n", what, (unsigned)answer, name_of(answer));
+}
+
+/* A change is told only once it is durable: what the box has answered, it still knows after a restart. */
+static void changed(const struct box *box, const char *what, uint8_t answer)
+{
+    if (answer == UNIT_ANSWER_FINE)
+        keep(box);
+    tell(what, answer);
+}
+
+static void write_text(struct box *box, const char *what, uint32_t epoch, uint64_t position, const char *text)
+{
+    const uint8_t *data = (const uint8_t *)text;
+    changed(box, what, unit_write(box->mem, STATION_MEMORY, epoch, position, UNIT_KIND_DATA, data, strlen(text)));
+}
+
+static void write_junk(struct box *box, const char *what, uint32_t epoch, uint64_t position)
+{
+    static const uint8_t nothing[1] = {0};
+    changed(box, what, unit_write(box->mem, STATION_MEMORY, epoch, position, UNIT_KIND_JUNK, nothing, 0));
+}
+
+/* Reads a position, and holds what a fine read gives to the kind and the text that are expected there. */
+static void read_page(const struct box *box, uint32_t epoch, uint64_t position, uint8_t kind_there, const char *text)
+{
+    uint8_t kind = 99;
+    uint64_t start = 99, length = 99;
+    char what[64];
+    uint8_t answer = unit_read(box->mem, STATION_MEMORY, epoch, position, &kind, &start, &length);
+    snprintf(what, sizeof what, "read %" PRIu64 " in epoch %" PRIu32, position, epoch);
+    tell(what, answer);
+    if (answer != UNIT_ANSWER_FINE) {
+        if (kind != 99 || start != 99 || length != 99)
+            stop("a refused read changed its outputs");
+        return;
+    }
+    printf("      %s, %" PRIu64 " bytes at offset %" PRIu64, kind == UNIT_KIND_DATA ? "data" : "junk", length, start);
+    if (length > 0)
+        printf(": %.*s", (int)length, (const char *)box->mem + start);
+    printf("\n");
+    if (kind != kind_there || length != strlen(text) || memcmp(box->mem + start, text, length) != 0)
+        stop("the page is not the one that was written");
+}
+
+static void seal(struct box *box, uint32_t epoch)
+{
+    uint64_t edge = 99;
+    char what[64];
+    uint8_t answer = unit_seal(box->mem, STATION_MEMORY, epoch, &edge);
+    snprintf(what, sizeof what, "seal epoch %" PRIu32, epoch);
+    changed(box, what, answer);
+    if (answer == UNIT_ANSWER_FINE)
+        printf("      the edge is %" PRIu64 "\n", edge);
+    else if (edge != 99)
+        stop("a refused seal changed the edge");
+}
+
+/* ---- the parts of the account */
+
+static const char short_text[] = "signal 12 at danger";
+static const char whole_page[] = "platform 4 clear, doors shut 815"; /* 32 bytes, all that a page holds */
+static const char too_long[] = "platform 4 clear, doors shut 0815";
+
+static void pages(struct box *box)
+{
+    printf("A new box is unit 3. Its memory, %d bytes, is kept in the file unit-3.memory.\n", STATION_MEMORY);
+    changed(box, "make the memory of unit 3", unit_fresh(box->mem, STATION_MEMORY, 3));
+    read_page(box, 1, 0, 0, "");
+    write_text(box, "write 0, 19 bytes", 1, 0, short_text);
+    write_text(box, "write 1, 32 bytes", 1, 1, whole_page);
+    write_text(box, "write 2, data of no bytes", 1, 2, "");
+    write_junk(box, "write 3, junk", 1, 3);
+    restart(box);
+    read_page(box, 1, 0, UNIT_KIND_DATA, short_text);
+    read_page(box, 1, 1, UNIT_KIND_DATA, whole_page);
+    printf("  Data of no bytes, junk and an unwritten position are three different things:\n");
+    read_page(box, 1, 2, UNIT_KIND_DATA, "");
+    read_page(box, 1, 3, UNIT_KIND_JUNK, "");
+    read_page(box, 1, 4, 0, "");
+}
+
+static void trim_and_prune(struct box *box)
+{
+    printf("\nPages that nobody needs any more are given up.\n");
+    changed(box, "trim 1", unit_trim(box->mem, STATION_MEMORY, 1, 1));
+    read_page(box, 1, 1, 0, "");
+    changed(box, "trim 6, where nothing was written", unit_trim(box->mem, STATION_MEMORY, 1, 6));
+    write_text(box, "write 6", 1, 6, short_text);
+    changed(box, "trim 6 once more", unit_trim(box->mem, STATION_MEMORY, 1, 6));
+    changed(box, "prune to 2", unit_prune(box->mem, STATION_MEMORY, 1, 2));
+    read_page(box, 1, 0, 0, "");
+    read_page(box, 1, 2, UNIT_KIND_DATA, "");
+    changed(box, "prune to 1, below the floor", unit_prune(box->mem, STATION_MEMORY, 1, 1));
+}
+
+static void sealing(struct box *box)
+{
+    printf("\nThe layout changes, and epoch 1 is over.\n");
+    seal(box, 1);
+    write_text(box, "write 7 in epoch 1", 1, 7, short_text);
+    write_text(box, "write 7 in epoch 2", 2, 7, short_text);
+    seal(box, 1);
+    seal(box, 0);
+    restart(box);
+    read_page(box, 1, 7, 0, "");
+    read_page(box, 2, 7, UNIT_KIND_DATA, short_text);
+}
+
+/* Memories that are not good: one byte short, and one with a byte that no unit wrote. */
+static void bad_memories(const struct box *box)
+{
+    struct box bad = *box;
+    uint64_t edge = 99;
+    tell("seal 6167 of the bytes", unit_seal(bad.mem, STATION_MEMORY - 1, 2, &edge));
+    bad.mem[STATION_MEMORY - 1] = 1;
+    tell("seal with a stray byte in an unused slot", unit_seal(bad.mem, STATION_MEMORY, 2, &edge));
+    bad.mem[STATION_MEMORY - 1] = 0;
+    if (edge != 99 || memcmp(bad.mem, box->mem, STATION_MEMORY) != 0)
+        stop("a bad memory was changed");
+}
+
+static void refusals(struct box *box)
+{
+    struct box before = *box;
+    static const uint8_t bytes[4] = {1, 2, 3, 4};
+    printf("\nEach refusal by its name; none of them changes a byte.\n");
+    bad_memories(box);
+    write_text(box, "write 2^40", 2, STATION_POSITIONS, short_text);
+    tell("prune to 2^40 + 1", unit_prune(box->mem, STATION_MEMORY, 2, STATION_POSITIONS + 1));
+    write_text(box, "write 8, 33 bytes", 2, 8, too_long);
+    tell("write 8, junk with 4 bytes", unit_write(box->mem, STATION_MEMORY, 2, 8, UNIT_KIND_JUNK, bytes, 4));
+    tell("write 8, of kind 3", unit_write(box->mem, STATION_MEMORY, 2, 8, 3, bytes, 0));
+    write_text(box, "write 8 in epoch 1", 1, 8, short_text);
+    write_text(box, "write 6, which is trimmed", 2, 6, short_text);
+    write_text(box, "write 1, below the floor", 2, 1, short_text);
+    write_junk(box, "write 2, which is written", 2, 2);
+    read_page(box, 2, 8, 0, "");
+    tell("make the memory of unit 9", unit_fresh(box->mem, STATION_MEMORY, 9));
+    if (memcmp(box->mem, before.mem, STATION_MEMORY) != 0)
+        stop("a refusal changed the memory");
+}
+
+static void filling(struct box *box)
+{
+    uint64_t p = 8;
+    printf("\nThe box fills up, with junk from position 8 on.\n");
+    while (unit_write(box->mem, STATION_MEMORY, 2, p, UNIT_KIND_JUNK, (const uint8_t *)"", 0) == UNIT_ANSWER_FINE)
+        p++;
+    keep(box);
+    printf("  the last one written is %" PRIu64 "\n", p - 1);
+    write_junk(box, "write the next", 2, p);
+    tell("trim the next", unit_trim(box->mem, STATION_MEMORY, 2, p));
+    changed(box, "prune to 4", unit_prune(box->mem, STATION_MEMORY, 2, 4));
+    write_junk(box, "write the next", 2, p);
+    restart(box);
+    read_page(box, 2, p, UNIT_KIND_JUNK, "");
+    seal(box, 2);
+}
+
+int main(int argc, char **argv)
+{
+    static struct box box;
+    if (argc != 2)
+        stop("usage: box FOLDER");
+    box.folder = argv[1];
+    int a = snprintf(box.file, sizeof box.file, "%s/unit-3.memory", argv[1]);
+    int b = snprintf(box.second, sizeof box.second, "%s/unit-3.memory.next", argv[1]);
+    if (a < 0 || b < 0 || (size_t)b >= sizeof box.second)
+        stop("the folder's name is too long");
+    pages(&box);
+    trim_and_prune(&box);
+    sealing(&box);
+    refusals(&box);
+    filling(&box);
+    return 0;
+}

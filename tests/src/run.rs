@@ -1,0 +1,35 @@
+//! A long sequence of random calls on one memory, both sides compared after each.
+
+use crate::call::{Call, Side};
+use crate::compare;
+use crate::memory::{parse, MEMORY};
+use crate::proved;
+use crate::random::Random;
+use crate::weather::{outputs, Weather};
+use std::collections::BTreeMap;
+
+/// How often each call gave each answer.
+pub type Tally = BTreeMap<(&'static str, u8), u64>;
+
+/// Makes `steps` calls after a fresh unit of random number was pruned to the weather's floor. `reading` is held to the library.
+pub fn sequence(reading: Side, weather: &Weather, seed: u64, steps: usize, tally: &mut Tally) -> Result<(), String> {
+    let mut random = Random::new(seed);
+    let mut memory = random.bytes(MEMORY);
+    let first = Call::Fresh { number: 1 + random.below(8) as u32 };
+    let second = Call::Prune { epoch: 1, position: weather.floor };
+    for step in 0..steps {
+        let call = match step {
+            0 => first.clone(),
+            1 => second.clone(),
+            _ => {
+                let unit = parse(&memory).ok_or(format!("{}, seed {seed}, step {step}: not good", weather.name))?;
+                weather.call(&mut random, &unit)
+            }
+        };
+        let after = compare::on([proved::after, reading], &memory, &call, outputs(&mut random))
+            .map_err(|said| format!("weather {:?}, seed {seed}, step {step}: {said}", weather.name))?;
+        *tally.entry((call.name(), after.answer)).or_default() += 1;
+        memory = after.memory;
+    }
+    Ok(())
+}

@@ -1,0 +1,159 @@
+//! The comparison bites: readings that are wrong in one place each are told from the library by the same random calls.
+
+use station_tests::call::{After, Call, Outputs, Side};
+use station_tests::memory::{HEADER, MEMORY, SLOT};
+use station_tests::reading;
+use station_tests::run::{sequence, Tally};
+use station_tests::weather::WEATHERS;
+
+/// Slots in use, as the header has them.
+fn count(memory: &[u8]) -> usize {
+    usize::from(u16::from_le_bytes([memory[16], memory[17]]))
+}
+
+fn junk_as_zeros(memory: &[u8], call: &Call, outputs: Outputs) -> After {
+    let mut after = reading::after(memory, call, outputs);
+    if matches!(call, Call::Read { .. }) && after.answer == 0 && after.outputs.kind == 2 {
+        after.outputs.length = 32;
+    }
+    after
+}
+
+fn junk_as_data(memory: &[u8], call: &Call, outputs: Outputs) -> After {
+    let mut after = reading::after(memory, call, outputs);
+    if matches!(call, Call::Read { .. }) && after.answer == 0 {
+        after.outputs.kind = 1;
+    }
+    after
+}
+
+fn payload_one_byte_late(memory: &[u8], call: &Call, outputs: Outputs) -> After {
+    let mut after = reading::after(memory, call, outputs);
+    if matches!(call, Call::Read { .. }) && after.answer == 0 {
+        after.outputs.start += 1;
+    }
+    after
+}
+
+fn all_refused(memory: &[u8], _: &Call, outputs: Outputs) -> After {
+    After { answer: 1, outputs, memory: memory.to_vec() }
+}
+
+fn no_work(memory: &[u8], call: &Call, outputs: Outputs) -> After {
+    After { memory: memory.to_vec(), ..reading::after(memory, call, outputs) }
+}
+
+fn made_up_edge(memory: &[u8], call: &Call, outputs: Outputs) -> After {
+    let mut after = reading::after(memory, call, outputs);
+    if matches!(call, Call::Seal { .. }) && after.answer == 0 {
+        after.outputs.edge = count(memory) as u64;
+    }
+    after
+}
+
+fn refusals_clear_the_outputs(memory: &[u8], call: &Call, outputs: Outputs) -> After {
+    let mut after = reading::after(memory, call, outputs);
+    if matches!(call, Call::Read { .. }) && after.answer != 0 {
+        after.outputs.length = 0;
+    }
+    after
+}
+
+fn a_sealed_epoch_still_writes(memory: &[u8], call: &Call, outputs: Outputs) -> After {
+    match call {
+        Call::Write { epoch, position, kind, data } => {
+            let call =
+                Call::Write { epoch: epoch.saturating_add(1), position: *position, kind: *kind, data: data.clone() };
+            reading::after(memory, &call, outputs)
+        }
+        _ => reading::after(memory, call, outputs),
+    }
+}
+
+fn full_before_written(memory: &[u8], call: &Call, outputs: Outputs) -> After {
+    let mut after = reading::after(memory, call, outputs);
+    if after.answer == 6 && count(memory) == 128 {
+        after.answer = 8;
+    }
+    after
+}
+
+fn page_before_position(memory: &[u8], call: &Call, outputs: Outputs) -> After {
+    let mut after = reading::after(memory, call, outputs);
+    if let Call::Write { data, .. } = call {
+        if after.answer == 2 && data.len() > 32 {
+            after.answer = 3;
+        }
+    }
+    after
+}
+
+fn lengths_cut_to_a_byte(memory: &[u8], call: &Call, outputs: Outputs) -> After {
+    let mut call = call.clone();
+    if let Call::Write { data, .. } = &mut call {
+        data.truncate(data.len() % 256);
+    }
+    reading::after(memory, &call, outputs)
+}
+
+fn trims_keep_the_last_byte(memory: &[u8], call: &Call, outputs: Outputs) -> After {
+    let mut after = reading::after(memory, call, outputs);
+    if matches!(call, Call::Trim { .. }) && count(memory) == count(&after.memory) {
+        let lasts = (0..count(memory)).map(|slot| HEADER + slot * SLOT + SLOT - 1);
+        lasts.for_each(|at| after.memory[at] = memory[at]);
+    }
+    after
+}
+
+fn pruned_slots_are_left(memory: &[u8], call: &Call, outputs: Outputs) -> After {
+    let mut after = reading::after(memory, call, outputs);
+    if matches!(call, Call::Prune { .. }) {
+        let free = HEADER + count(&after.memory) * SLOT;
+        after.memory[free..].copy_from_slice(&memory[free..]);
+    }
+    after
+}
+
+fn one_bit_more(memory: &[u8], call: &Call, outputs: Outputs) -> After {
+    let mut after = reading::after(memory, call, outputs);
+    if after.answer == 8 {
+        after.memory[MEMORY - 1] ^= 128;
+    }
+    after
+}
+
+/// Whether some sequence of the random calls tells this reading from the library.
+fn is_caught(wrong: Side) -> bool {
+    let mut runs = WEATHERS.iter().flat_map(|weather| (0..3).map(move |seed| (weather, seed)));
+    runs.any(|(weather, seed)| sequence(wrong, weather, seed, 2_000, &mut Tally::new()).is_err())
+}
+
+#[test]
+fn wrong_readings_are_caught() {
+    let wrong: [(&str, Side); 14] = [
+        ("junk_as_zeros", junk_as_zeros),
+        ("junk_as_data", junk_as_data),
+        ("payload_one_byte_late", payload_one_byte_late),
+        ("all_refused", all_refused),
+        ("no_work", no_work),
+        ("made_up_edge", made_up_edge),
+        ("refusals_clear_the_outputs", refusals_clear_the_outputs),
+        ("a_sealed_epoch_still_writes", a_sealed_epoch_still_writes),
+        ("full_before_written", full_before_written),
+        ("page_before_position", page_before_position),
+        ("lengths_cut_to_a_byte", lengths_cut_to_a_byte),
+        ("trims_keep_the_last_byte", trims_keep_the_last_byte),
+        ("pruned_slots_are_left", pruned_slots_are_left),
+        ("one_bit_more", one_bit_more),
+    ];
+    for (name, side) in wrong {
+        assert!(is_caught(side), "no random call tells the reading `{name}` from the library");
+    }
+    assert!(!is_caught(reading::after), "the right reading is told from the library");
+}
+
+#[test]
+fn a_difference_names_its_seed_and_step() {
+    let said = sequence(all_refused, &WEATHERS[0], 42, 10, &mut Tally::new()).unwrap_err();
+    assert!(said.contains("seed 42, step 0") && said.contains("answers 0 and 1"), "{said}");
+}

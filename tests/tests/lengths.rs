@@ -1,0 +1,43 @@
+//! Memories of every other length are refused with 1, and not a byte of them or of the outputs changes.
+
+use station_tests::call::Call;
+use station_tests::compare::agree;
+use station_tests::memory::{print, MEMORY};
+use station_tests::samples::{probes, units, UNTOUCHED};
+
+const LENGTHS: [usize; 22] =
+    [0, 1, 2, 7, 8, 16, 18, 23, 24, 25, 47, 48, 71, 72, 6120, 6167, 6169, 6216, 2 * 6168, 65536, 65536 + 6168, 1 << 20];
+
+/// The first `length` bytes of a good memory, with zeros after it where that is longer.
+fn cut(memory: &[u8], length: usize) -> Vec<u8> {
+    let mut cut = memory.to_vec();
+    cut.resize(length, 0);
+    cut
+}
+
+#[test]
+fn other_lengths() {
+    for (name, unit) in units() {
+        let memory = print(&unit);
+        for length in LENGTHS {
+            assert_ne!(length, MEMORY);
+            let mut calls = probes(&unit);
+            calls.extend([0, 1, 8, 9].map(|number| Call::Fresh { number }));
+            calls.push(Call::Write { epoch: 0, position: u64::MAX, kind: 9, data: vec![1; 99] });
+            for call in calls {
+                let after = agree(&format!("{name}, {length} bytes of it"), &cut(&memory, length), &call, UNTOUCHED);
+                assert_eq!((after.answer, after.outputs), (1, UNTOUCHED), "{call:?} on {length} bytes");
+            }
+        }
+    }
+}
+
+#[test]
+fn two_good_memories_in_a_row_are_none() {
+    for (name, unit) in units() {
+        let twice = [print(&unit), print(&unit)].concat();
+        for call in probes(&unit) {
+            assert_eq!(agree(&format!("{name}, twice"), &twice, &call, UNTOUCHED).answer, 1);
+        }
+    }
+}
