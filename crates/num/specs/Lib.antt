@@ -1,3 +1,4 @@
 pub mod Limits
 pub mod Checks
 pub mod Bytes
+pub mod Unique

@@ -2,7 +2,7 @@
 use Prim.Native.Nat.{ℕ}
 use mathlib.Core.List.{List}
 use mathlib.Core.Path.{_≡_}
-use Rattle.unit.specs.Unique.{once}
+use Rattle.num.specs.Unique.{once}
 use Rattle.station.specs.Told.{IsTold, IsSealTold}
 
 pub told-once : {m : List ℕ} {e p k s n a k₁ s₁ n₁ b k₂ s₂ n₂ : ℕ} → IsTold m e p k s n a k₁ s₁ n₁ → IsTold m e p k s n b k₂ s₂ n₂

@@ -1,0 +1,6 @@
+-- The laws behind the table.
+pub mod Units
+pub mod Passing
+pub mod Telling
+pub mod Reading
+pub mod Running

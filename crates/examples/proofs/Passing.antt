@@ -1,0 +1,74 @@
+-- One test, computed over all rows, and the law that turns it into the answer at every row.
+use Prim.Native.Nat.{ℕ, zero, suc, _<_}
+use mathlib.Core.Bool.{Bool, true, _&&_}
+use mathlib.Core.List.{List, [], _∷_}
+use mathlib.Core.Path.{_≡_, refl, _∙_}
+use native.Mathlib.Nat.{le-of-suc-le-suc, not-suc-le-zero}
+use native.Mathlib.Omega.{arith}
+use borrow.Author.Tests.{eqb-true}
+use lib.Dec.{eqb}
+use lib.ListN.{length, getD}
+use Rattle.num.proofs.Tests.{and-both}
+use Rattle.unit.specs.Shape.{small}
+use Rattle.unit.specs.State.{State, lookup, insert, keepFrom, retire, edge, lastEnd}
+use Rattle.unit.specs.Memory.{encode, valid, validSlots}
+use Rattle.unit.specs.Rules.{freshUnit, written, pruned, sealedAt, retired}
+use Rattle.unit.proofs.Freshness.{fresh-fine, fresh-made}
+use Rattle.examples.specs.declared.ask.Row.{Row}
+use Rattle.examples.specs.declared.ask.Told.{Told}
+use Rattle.examples.specs.Asks.{toldOf, leftBy}
+use Rattle.examples.specs.Table.{rows}
+use Rattle.examples.specs.Marked.{blank, after, sameTold, Marked}
+use Rattle.examples.proofs.Telling.{told-eq}
+use Rattle.examples.proofs.Units.{sound, sure, filled, tells, next, tells-right, leaves-next}
+
+same-eq : (a b : Told) → sameTold a b ≡ true → a ≡ b
+same-eq a b h =
+    let (t, z) = and-both (eqb (a .answer) (b .answer) && eqb (a .first) (b .first)) (eqb (a .second) (b .second)) h in
+    let (x, y) = and-both (eqb (a .answer) (b .answer)) (eqb (a .first) (b .first)) t in
+    told-eq (eqb-true _ _ x) (eqb-true _ _ y) (eqb-true _ _ z)
+
+-- every row answers as it expects, from the unit u on
+passes : State → List Row → Bool
+passes u [] = true
+passes u (r ∷ rs) = sound u && (sure u (r .asked) && (sameTold (tells u (r .asked)) (r .told) && passes (next u (r .asked)) rs))
+
+record Passed (u : State) (r : Row) (rs : List Row) : Type 0 where
+  told-right : toldOf (encode small u) (r .asked) ≡ r .told
+  left : leftBy (encode small u) (r .asked) ≡ encode small (next u (r .asked))
+  later : passes (next u (r .asked)) rs ≡ true
+
+first-passed : (u : State) (r : Row) (rs : List Row) → passes u (r ∷ rs) ≡ true → Passed u r rs
+unfolding passes
+first-passed u r rs h =
+    let a = r .asked in
+    let (s, h1) = and-both (sound u) (sure u a && (sameTold (tells u a) (r .told) && passes (next u a) rs)) h in
+    let (t, h2) = and-both (sure u a) (sameTold (tells u a) (r .told) && passes (next u a) rs) h1 in
+    let (e, later) = and-both (sameTold (tells u a) (r .told)) (passes (next u a) rs) h2 in
+    record { told-right = tells-right u s a t ∙ same-eq (tells u a) (r .told) e; left = leaves-next u s a t; later = later }
+
+passed : (u : State) (rs : List Row) → passes u rs ≡ true → (k : ℕ) → k < length rs
+    → toldOf (after k rs (encode small u)) (getD rs k blank .asked) ≡ getD rs k blank .told
+unfolding after
+passed u [] h k l = absurd (not-suc-le-zero l)
+passed u (r ∷ rs) h zero l = first-passed u r rs h .told-right
+passed u (r ∷ rs) h (suc k) l =
+    let f = first-passed u r rs h in
+    rw (f .left) (passed (next u (r .asked)) rs (f .later) k (le-of-suc-le-suc l))
+
+abbrev tail : List Row → List Row
+tail [] = []
+tail (r ∷ rs) = rs
+
+-- the test, computed: every row but the first, which makes the unit 1
+all : passes (freshUnit 1) (tail rows) ≡ true
+unfolding passes rows sound sure tells next filled valid validSlots lookup insert keepFrom retire lastEnd edge written pruned sealedAt retired
+all = refl
+
+-- THE MARKED EXAMPLES HOLD
+pub marked : Marked
+unfolding rows after toldOf leftBy
+marked m e zero l = rw (fresh-fine small m 1 e (omega arith) (omega arith))
+marked m e (suc k) l =
+    let made = fresh-made small m 1 (fresh-fine small m 1 e (omega arith) (omega arith)) in
+    rw made (passed (freshUnit 1) (tail rows) all k (le-of-suc-le-suc l))

@@ -1,0 +1,39 @@
+// A row of the table: what is asked of a unit, and what it must answer.
+use num::count::Epoch;
+use num::count::Position;
+
+pub enum Ask {
+    // A fresh memory of the unit of that number.
+    Fresh(u32),
+    // A page of that kind with so many bytes.
+    Write(Epoch, Position, u8, usize),
+    Read(Epoch, Position),
+    Trim(Epoch, Position),
+    Prune(Epoch, Position),
+    Seal(Epoch),
+    // A data page of no bytes at each of so many positions, from 0 on, in epoch 1.
+    Fill(u64),
+    // The floor, which no request tells: its bytes in the memory.
+    Floor,
+}
+
+// The number answered; of a read also the kind and the length, of a seal the edge, of the floor the floor. 0 elsewhere.
+pub struct Told {
+    pub answer: u64,
+    pub first: u64,
+    pub second: u64,
+}
+
+pub struct Row {
+    // The paper's example that it belongs to.
+    pub example: u64,
+    pub asked: Ask,
+    pub told: Told,
+}
+
+impl Row {
+    // Rows of the table, and the numbers that each has there.
+    pub const COUNT: usize = 37;
+
+    pub const NUMBERS: usize = 9;
+}

@@ -1,0 +1,45 @@
+// Runs the paper's marked examples against the code of a unit, row by row of the table.
+ghost use mathlib.Core.Path.{_≡_};
+ghost use lib.ListN.{length};
+use crate::ask::Row;
+use crate::row::row_at;
+use crate::show::say;
+use crate::show::say_number;
+use crate::show::show;
+use crate::tell::tell;
+use unit::memory::Unit;
+
+mod ask;
+mod row;
+mod show;
+mod table;
+mod tell;
+
+// Asks every row in turn, and prints it; how many were not answered as expected. It is proved that none is.
+fn run(mem: &mut [u8]) -> u64
+    requires { ⌜ length (now mem) ≡ 6168 ⌝ }
+    ensures { λ r. ⌜ r ≡ 0 ⌝ }
+{
+    let mut wrong: u64 = 0;
+    let mut k: usize = 0;
+    while k < Row::COUNT {
+        let row = row_at(k);
+        let asked = row.asked;
+        let got = tell(mem, asked);
+        wrong += show(row, got);
+        k += 1;
+    }
+    wrong
+}
+
+fn main() {
+    let mut mem = [0u8; Unit::SIZE];
+    let wrong = run(&mut mem);
+    let rows = Row::COUNT as u64;
+    say_number(rows);
+    say(b" rows, ");
+    say_number(rows - wrong);
+    say(b" as expected, ");
+    say_number(wrong);
+    say(b" NOT as expected\n");
+}

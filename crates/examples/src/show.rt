@@ -1,0 +1,120 @@
+// Printing a row: its example, what was asked, what was told, and whether that is what the row expects.
+ghost use mathlib.Core.Path.{_≡_};
+ghost use mathlib.Core.Bool.{cond};
+ghost use Rattle.examples.specs.Marked.{sameTold};
+use crate::ask::Ask;
+use crate::ask::Row;
+use crate::ask::Told;
+use libc::STDOUT_FILENO;
+use num::count::Epoch;
+use num::count::Position;
+
+pub(crate) fn say(text: &[u8]) {
+    io::write_all(STDOUT_FILENO, text);
+}
+
+pub(crate) fn say_number(n: u64) {
+    io::print_decimal(STDOUT_FILENO, n);
+}
+
+fn say_at(what: &[u8], e: Epoch, p: Position) {
+    say(what);
+    say(b" e");
+    say_number(e.0 as u64);
+    say(b" p");
+    say_number(p.0);
+}
+
+// A page's kind and length.
+fn say_page(kind: u64, size: u64) {
+    match kind {
+        1 => say(b" data "),
+        2 => say(b" junk "),
+        _ => say(b" other "),
+    }
+    say_number(size);
+    say(b" bytes");
+}
+
+fn say_asked(asked: Ask) {
+    match asked {
+        Ask::Fresh(n) => {
+            say(b"fresh unit ");
+            say_number(n as u64);
+        }
+        Ask::Write(e, p, kind, size) => {
+            say_at(b"write", e, p);
+            say_page(kind as u64, size as u64);
+        }
+        Ask::Read(e, p) => say_at(b"read", e, p),
+        Ask::Trim(e, p) => say_at(b"trim", e, p),
+        Ask::Prune(e, p) => say_at(b"prune", e, p),
+        Ask::Seal(n) => {
+            say(b"seal e");
+            say_number(n.0 as u64);
+        }
+        Ask::Fill(n) => {
+            say(b"write e1 data 0 bytes at each position below ");
+            say_number(n);
+        }
+        Ask::Floor => say(b"look at the floor"),
+    }
+}
+
+// The number answered, and what comes with a fine answer.
+fn say_told(asked: Ask, told: Told) {
+    say_number(told.answer);
+    if told.answer != 0 {
+        return;
+    }
+    match asked {
+        Ask::Read(_, _) => say_page(told.first, told.second),
+        Ask::Seal(_) => {
+            say(b" edge ");
+            say_number(told.first);
+        }
+        Ask::Floor => {
+            say(b" floor ");
+            say_number(told.first);
+        }
+        _ => {}
+    }
+}
+
+fn same(a: Told, b: Told) -> bool
+    ensures { λ r. ⌜ r ≡ sameTold a b ⌝ }
+{
+    (a.answer == b.answer) & (a.first == b.first) & (a.second == b.second)
+}
+
+// Prints whether `got` is what was expected: 0 where it is, and otherwise 1.
+fn verdict(got: Told, expected: Told) -> u64
+    ensures { λ r. ⌜ r ≡ cond (sameTold got expected) 0 1 ⌝ }
+{
+    if same(got, expected) {
+        say(b", as expected\n");
+        0
+    } else {
+        say(b", NOT as expected\n");
+        1
+    }
+}
+
+fn say_row(example: u64, asked: Ask, got: Told) {
+    say(b"example ");
+    say_number(example);
+    say(b": ");
+    say_asked(asked);
+    say(b": ");
+    say_told(asked, got);
+}
+
+// Prints a row and what it was told: 0 where that is what it expects, and otherwise 1.
+pub(crate) fn show(row: Row, got: Told) -> u64
+    ensures { λ r. ⌜ r ≡ cond (sameTold got (row .told)) 0 1 ⌝ }
+{
+    let asked = row.asked;
+    let told = row.told;
+    say_row(row.example, asked, got);
+    verdict(got, told)
+}

@@ -1,0 +1,83 @@
+-- What a good layout and a tidy value say of their parts, and back.
+use Prim.Native.Nat.{_≤_}
+use mathlib.Core.Bool.{Bool, true, false, _&&_}
+use mathlib.Core.Path.{_≡_, refl}
+use borrow.Author.Tests.{leb-true, eqb-true, le-leb, eq-eqb}
+use lib.Dec.{leb, eqb}
+use lib.ListN.{length, drop}
+use Rattle.num.specs.Limits.{lastEpoch}
+use Rattle.num.proofs.Tests.{false-true}
+use Rattle.layout.specs.declared.value.Layout.{Layout}
+use Rattle.layout.specs.Lay.{Lay, good, goodSets, firstAtZero, goodSpans, used, setsLimit, rangesLimit}
+use Rattle.layout.specs.Value.{tidy, tidyChains, blankRanges}
+
+-- a conjunction's parts
+pub six : (a b c d e f : Bool) → (a && b && c && d && e && f) ≡ true
+    → (a ≡ true) × (b ≡ true) × (c ≡ true) × (d ≡ true) × (e ≡ true) × (f ≡ true)
+six true true true true true f h = (refl, refl, refl, refl, refl, h)
+six true true true true false f h = absurd (false-true h)
+six true true true false e f h = absurd (false-true h)
+six true true false d e f h = absurd (false-true h)
+six true false c d e f h = absurd (false-true h)
+six false b c d e f h = absurd (false-true h)
+
+pub eight : (a b c d e f g i : Bool) → (a && b && c && d && e && f && g && i) ≡ true
+    → (a ≡ true) × (b ≡ true) × (c ≡ true) × (d ≡ true) × (e ≡ true) × (f ≡ true) × (g ≡ true) × (i ≡ true)
+eight true true c d e f g i h = let t = six c d e f g i h in (refl, refl, t .0, t .1, t .2, t .3, t .4, t .5)
+eight true false c d e f g i h = absurd (false-true h)
+eight false b c d e f g i h = absurd (false-true h)
+
+-- limits kept, epoch at least 1, sets good, first start 0, starts rising, the ranges use all sets
+pub record Good (l : Lay) : Type 0 where
+  pub low : 1 ≤ l .epoch
+  pub high : l .epoch ≤ lastEpoch
+  pub sets-few : length (l .sets) ≤ setsLimit
+  pub spans-few : length (l .spans) ≤ rangesLimit
+  pub sets-good : goodSets (l .sets) ≡ true
+  pub first-zero : firstAtZero (l .spans) ≡ true
+  pub spans-good : goodSpans 0 (l .spans) ≡ true
+  pub all-used : used (l .spans) ≡ length (l .sets)
+
+pub good-says : (l : Lay) → good l ≡ true → Good l
+unfolding good
+good-says l h =
+    let t = eight (leb 1 (l .epoch)) (leb (l .epoch) lastEpoch) (leb (length (l .sets)) setsLimit) (leb (length (l .spans)) rangesLimit)
+    (goodSets (l .sets)) (firstAtZero (l .spans)) (goodSpans 0 (l .spans)) (eqb (used (l .spans)) (length (l .sets))) h in
+    record {
+      low = leb-true _ _ (t .0);
+      high = leb-true _ _ (t .1);
+      sets-few = leb-true _ _ (t .2);
+      spans-few = leb-true _ _ (t .3);
+      sets-good = t .4;
+      first-zero = t .5;
+      spans-good = t .6;
+      all-used = eqb-true _ _ (t .7);
+    }
+
+pub says-good : (l : Lay) → Good l → good l ≡ true
+unfolding good
+says-good l g =
+    rw (le-leb 1 (l .epoch) (g .low), le-leb (l .epoch) lastEpoch (g .high), le-leb (length (l .sets)) setsLimit (g .sets-few), le-leb (length (l .spans)) rangesLimit (g .spans-few))
+    (rw (g .sets-good, g .first-zero, g .spans-good) (eq-eqb (used (l .spans)) (length (l .sets)) (g .all-used)))
+
+-- counts within the arrays, and blank past every count
+pub record Tidy (l : Layout) : Type 0 where
+  pub room : length (l .sets) ≡ setsLimit
+  pub few : l .«set_count» ≤ setsLimit
+  pub chains : tidyChains (l .«set_count») (l .sets) ≡ true
+  pub spans-room : length (l .ranges) ≡ rangesLimit
+  pub spans-few : l .«range_count» ≤ rangesLimit
+  pub blanks : blankRanges (drop (l .«range_count») (l .ranges)) ≡ true
+
+pub tidy-says : (l : Layout) → tidy l ≡ true → Tidy l
+unfolding tidy
+tidy-says l h =
+    let t = six (eqb (length (l .sets)) setsLimit) (leb (l .«set_count») setsLimit) (tidyChains (l .«set_count») (l .sets))
+    (eqb (length (l .ranges)) rangesLimit) (leb (l .«range_count») rangesLimit) (blankRanges (drop (l .«range_count») (l .ranges))) h in
+    record { room = eqb-true _ _ (t .0); few = leb-true _ _ (t .1); chains = t .2; spans-room = eqb-true _ _ (t .3); spans-few = leb-true _ _ (t .4); blanks = t .5 }
+
+pub says-tidy : (l : Layout) → Tidy l → tidy l ≡ true
+unfolding tidy
+says-tidy l t =
+    rw (eq-eqb (length (l .sets)) setsLimit (t .room), le-leb (l .«set_count») setsLimit (t .few), t .chains)
+    (rw (eq-eqb (length (l .ranges)) rangesLimit (t .spans-room), le-leb (l .«range_count») rangesLimit (t .spans-few)) (t .blanks))

@@ -1,0 +1,230 @@
+-- Every plan of a good layout, once its start is set, is good and a lawful successor.
+use Prim.Native.Nat.{ℕ, zero, suc, _+_, _<_, _≤_}
+use mathlib.Core.Bool.{Bool, true, false, _||_, cond, or-true}
+use mathlib.Core.List.{List, [], _∷_, _++_, map, append-nil}
+use mathlib.Core.Path.{_≡_, refl, sym, ap, _∙_}
+use native.Mathlib.Omega.{arith}
+use borrow.Author.Tests.{eqb-false, le-leb, lt-ltb, eq-eqb, leb-false}
+use lib.Dec.{leb, ltb, eqb}
+use lib.ListN.{length, length-map, length-append}
+use Rattle.num.specs.Limits.{limit}
+use Rattle.num.proofs.Tests.{and-both, or-false, false-true, cond-zero}
+use Rattle.layout.specs.Lay.{Span, Lay, good, goodSet, goodSets, goodSpans, firstAtZero, used, rising, _in?_, setLimit, unitLimit}
+use Rattle.layout.specs.Successor.{sublist, keepsSets, keepsSpans, lawful}
+use Rattle.layout.specs.Plan.{without, emptied, newRanges, newSpans, planAnswer, planned, lastStart, newStart, startAnswer}
+use Rattle.layout.specs.Value.{layOf, valueOf}
+use Rattle.layout.proofs.Goodness.{Good, says-good}
+use Rattle.layout.proofs.Values.{good-short, lay-back}
+use Rattle.layout.proofs.Goods.{is-good-set, is-good-span}
+use Rattle.layout.proofs.Sets.{Rises, rises}
+use Rattle.layout.proofs.Thinning.{without-length}
+use Rattle.layout.proofs.Planning.{PlanFine, checks-fine}
+
+-- ---- a set without the units to drop is a sublist, and rises
+
+sub-skip : (ys : List ℕ) → ((x : ℕ) (xs : List ℕ) → sublist (x ∷ xs) ys ≡ true → sublist xs ys ≡ true) → (xs : List ℕ) (y : ℕ) → sublist xs ys ≡ true → sublist xs (y ∷ ys) ≡ true
+unfolding sublist
+sub-skip ys shorter [] y s = refl
+sub-skip ys shorter (x ∷ xs) y s = go (eqb x y)
+  where
+    go : (b : Bool) → cond b (sublist xs ys) (sublist (x ∷ xs) ys) ≡ true
+    go true = shorter x xs s
+    go false = s
+
+sub-shorter : (ys : List ℕ) (x : ℕ) (xs : List ℕ) → sublist (x ∷ xs) ys ≡ true → sublist xs ys ≡ true
+unfolding sublist
+sub-shorter [] x xs s = absurd (false-true s)
+sub-shorter (y ∷ ys) x xs s = sub-skip ys (sub-shorter ys) xs y (go (eqb x y) s (sub-shorter ys x xs))
+  where
+    go : (b : Bool) → cond b (sublist xs ys) (sublist (x ∷ xs) ys) ≡ true → (sublist (x ∷ xs) ys ≡ true → sublist xs ys ≡ true) → sublist xs ys ≡ true
+    go true t shorter = t
+    go false t shorter = shorter t
+
+without-sub : (drops us : List ℕ) → sublist (without drops us) us ≡ true
+unfolding without sublist
+without-sub drops [] = refl
+without-sub drops (u ∷ us) = go (u in? drops) (without-sub drops us)
+  where
+    go : (b : Bool) → sublist (without drops us) us ≡ true → sublist (cond b (without drops us) (u ∷ without drops us)) (u ∷ us) ≡ true
+    go true s = sub-skip us (sub-shorter us) (without drops us) u s
+    go false s = rw (eq-eqb u u refl) s
+
+rising-lower : (low high : ℕ) (us : List ℕ) → low ≤ high → rising high us ≡ true → rising low us ≡ true
+unfolding rising
+rising-lower low high [] h r = refl
+rising-lower low high (u ∷ us) h r =
+    let s = rises high u us r in
+    rw (lt-ltb low u (omega arith), le-leb u unitLimit (s .within)) (s .rest)
+
+without-rise : (drops : List ℕ) (low : ℕ) (us : List ℕ) → rising low us ≡ true → rising low (without drops us) ≡ true
+unfolding without rising
+without-rise drops low [] r = refl
+without-rise drops low (u ∷ us) r = go (u in? drops) (without-rise drops u us (s .rest))
+  where
+    s : Rises low u us
+    s = rises low u us r
+
+    go : (b : Bool) → rising u (without drops us) ≡ true → rising low (cond b (without drops us) (u ∷ without drops us)) ≡ true
+    go true t = rising-lower low u (without drops us) (omega (arith, s .from)) t
+    go false t = rw (lt-ltb low u (s .from), le-leb u unitLimit (s .within)) t
+
+-- ---- no set is emptied
+
+first-kept : (drops us : List ℕ) (sets : List (List ℕ)) → emptied drops (us ∷ sets) ≡ false → (1 ≤ length (without drops us)) × (emptied drops sets ≡ false)
+unfolding emptied
+first-kept drops us sets e =
+    let r = or-false (eqb (length (without drops us)) 0) (emptied drops sets) e in
+    (some (length (without drops us)) (eqb-false (length (without drops us)) 0 (r .0)), r .1)
+  where
+    some : (n : ℕ) → (n ≡ 0 → ⊥) → 1 ≤ n
+    some zero h = absurd (h refl)
+    some (suc n) h = omega arith
+
+without-good : (drops us : List ℕ) → goodSet us ≡ true → 1 ≤ length (without drops us) → goodSet (without drops us) ≡ true
+unfolding goodSet
+without-good drops us g h =
+    let s = is-good-set us g in
+    rw (le-leb 1 (length (without drops us)) h, le-leb (length (without drops us)) setLimit (omega (arith, s .few, without-length drops us))) (without-rise drops 0 us (s .rise))
+
+plan-sets-good : (drops : List ℕ) (sets new : List (List ℕ)) → goodSets sets ≡ true → emptied drops sets ≡ false → goodSets new ≡ true → goodSets (map (without drops) sets ++ new) ≡ true
+unfolding goodSets
+plan-sets-good drops [] new g e n = n
+plan-sets-good drops (us ∷ sets) new g e n =
+    let r = and-both (goodSet us) (goodSets sets) g in
+    let k = first-kept drops us sets e in
+    rw (without-good drops us (r .0) (k .0)) (plan-sets-good drops sets new (r .1) (k .1) n)
+
+plan-keeps-sets : (drops : List ℕ) (sets new : List (List ℕ)) → emptied drops sets ≡ false → keepsSets sets (map (without drops) sets ++ new) ≡ true
+unfolding keepsSets
+plan-keeps-sets drops [] new e = refl
+plan-keeps-sets drops (us ∷ sets) new e =
+    let k = first-kept drops us sets e in
+    rw (le-leb 1 (length (without drops us)) (k .0), without-sub drops us) (plan-keeps-sets drops sets new (k .1))
+
+-- ---- one range more
+
+spans-good-more : (low : ℕ) (s : Span) (ss : List Span) (t : Span) → goodSpans low (s ∷ ss) ≡ true → lastStart (s ∷ ss) < t .start → t .start < limit → 1 ≤ t .uses → goodSpans low (s ∷ ss ++ t ∷ []) ≡ true
+unfolding goodSpans lastStart
+spans-good-more low s [] t g h k u =
+    let r = is-good-span low s [] g in
+    rw (le-leb low (s .start) (r .from), lt-ltb (s .start) limit (r .below), le-leb 1 (s .uses) (r .some), le-leb (s .start + 1) (t .start) (omega arith), lt-ltb (t .start) limit k, le-leb 1 (t .uses) u)
+spans-good-more low s (q ∷ ss) t g h k u =
+    let r = is-good-span low s (q ∷ ss) g in
+    rw (le-leb low (s .start) (r .from), lt-ltb (s .start) limit (r .below), le-leb 1 (s .uses) (r .some)) (spans-good-more (s .start + 1) q ss t (r .rest) h k u)
+
+used-append : (ss ts : List Span) → used (ss ++ ts) ≡ used ss + used ts
+unfolding used
+used-append [] ts = omega arith
+used-append (s ∷ ss) ts = omega (arith, used-append ss ts)
+
+spans-kept : (last : ℕ) (ss : List Span) → keepsSpans last ss ss ≡ true
+unfolding keepsSpans
+spans-kept last [] = refl
+spans-kept last (s ∷ ss) = rw (eq-eqb (s .start) (s .start) refl, eq-eqb (s .uses) (s .uses) refl) (spans-kept (s .start) ss)
+
+spans-kept-more : (last : ℕ) (s : Span) (ss : List Span) (t : Span) → lastStart (s ∷ ss) < t .start → keepsSpans last (s ∷ ss) (s ∷ ss ++ t ∷ []) ≡ true
+unfolding keepsSpans lastStart
+spans-kept-more last s [] t h = rw (eq-eqb (s .start) (s .start) refl, eq-eqb (s .uses) (s .uses) refl) (lt-ltb (s .start) (t .start) h)
+spans-kept-more last s (q ∷ ss) t h = rw (eq-eqb (s .start) (s .start) refl, eq-eqb (s .uses) (s .uses) refl) (spans-kept-more (s .start) q ss t h)
+
+-- ---- the ranges of a plan
+
+-- a new range starts above the last old start and below 2^40
+pub record StartFits (ss : List Span) (new : List (List ℕ)) (start : ℕ) : Type 0 where
+  pub higher : 0 < length new → lastStart ss < start
+  pub below : 0 < length new → start < limit
+
+plan-spans-good : (ss : List Span) (new : List (List ℕ)) (start : ℕ) → goodSpans 0 ss ≡ true → firstAtZero ss ≡ true → StartFits ss new start → goodSpans 0 (ss ++ newSpans start new) ≡ true
+unfolding firstAtZero
+plan-spans-good [] new start g z f = absurd (false-true z)
+plan-spans-good (s ∷ ss) [] start g z f = rw (append-nil (s ∷ ss)) g
+plan-spans-good (s ∷ ss) (us ∷ new) start g z f =
+    spans-good-more 0 s ss (record { start = start; uses = suc (length new) }) g (f .higher (omega arith)) (f .below (omega arith)) (omega arith)
+
+plan-keeps-spans : (ss : List Span) (new : List (List ℕ)) (start : ℕ) → firstAtZero ss ≡ true → StartFits ss new start → keepsSpans 0 ss (ss ++ newSpans start new) ≡ true
+unfolding firstAtZero
+plan-keeps-spans [] new start z f = absurd (false-true z)
+plan-keeps-spans (s ∷ ss) [] start z f = rw (append-nil (s ∷ ss)) (spans-kept 0 (s ∷ ss))
+plan-keeps-spans (s ∷ ss) (us ∷ new) start z f = spans-kept-more 0 s ss (record { start = start; uses = suc (length new) }) (f .higher (omega arith))
+
+plan-first : (ss ts : List Span) → firstAtZero ss ≡ true → firstAtZero (ss ++ ts) ≡ true
+unfolding firstAtZero
+plan-first [] ts z = absurd (false-true z)
+plan-first (s ∷ ss) ts z = z
+
+new-used : (new : List (List ℕ)) (start : ℕ) → used (newSpans start new) ≡ length new
+unfolding used
+new-used [] start = refl
+new-used (us ∷ new) start = omega arith
+
+new-counted : (new : List (List ℕ)) (start : ℕ) → length (newSpans start new) ≡ newRanges new
+new-counted [] start = refl
+new-counted (us ∷ new) start = refl
+
+-- there is a range more, or no set more
+longer : (new : List (List ℕ)) (a b : ℕ) → (ltb a (a + newRanges new) || eqb b (b + length new)) ≡ true
+longer [] a b = rw (eq-eqb b (b + 0) (omega arith), or-true)
+longer (us ∷ new) a b = rw (lt-ltb a (a + 1) (omega arith))
+
+-- ---- the plan
+
+module _ (held : Lay) (drops : List ℕ) (new : List (List ℕ)) (start : ℕ) (g : Good held) (fine : planAnswer held drops new ≡ 0) where
+  fits : PlanFine held drops (goodSets new) new
+  unfolding planAnswer
+  fits = checks-fine held drops (goodSets new) new fine
+
+  set-count : length (map (without drops) (held .sets) ++ new) ≡ length (held .sets) + length new
+  set-count = rw (length-append (map (without drops) (held .sets)) new, length-map (held .sets) (without drops))
+
+  span-count : length (held .spans ++ newSpans start new) ≡ length (held .spans) + newRanges new
+  span-count = rw (length-append (held .spans) (newSpans start new), new-counted new start)
+
+  sets-good-here : goodSets (map (without drops) (held .sets) ++ new) ≡ true
+  sets-good-here = plan-sets-good drops (held .sets) new (g .sets-good) (fits .none-lost) (fits .new-good)
+
+  -- the value of a plan stands for it, also while its start is open
+  pub plan-back : layOf (valueOf (planned held drops new start)) ≡ planned held drops new start
+  unfolding planned
+  plan-back =
+      lay-back (planned held drops new start) (omega (arith, set-count, fits .sets-fit)) (omega (arith, span-count, fits .spans-fit)) (good-short (map (without drops) (held .sets) ++ new) sets-good-here)
+
+  module _ (starts : StartFits (held .spans) new start) where
+    pub plan-good : good (planned held drops new start) ≡ true
+    unfolding planned
+    plan-good =
+        says-good (planned held drops new start)
+        (record {
+          low = omega arith;
+          high = omega (arith, fits .epoch-left);
+          sets-few = omega (arith, set-count, fits .sets-fit);
+          spans-few = omega (arith, span-count, fits .spans-fit);
+          sets-good = sets-good-here;
+          first-zero = plan-first (held .spans) (newSpans start new) (g .first-zero);
+          spans-good = plan-spans-good (held .spans) new start (g .spans-good) (g .first-zero) starts;
+          all-used = omega (arith, used-append (held .spans) (newSpans start new), new-used new start, set-count, g .all-used);
+        })
+
+    pub plan-lawful : lawful held (planned held drops new start) ≡ true
+    unfolding lawful planned
+    plan-lawful = rw (plan-keeps-spans (held .spans) new start (g .first-zero) starts, plan-keeps-sets drops (held .sets) new (fits .none-lost), span-count, set-count) (longer new (length (held .spans)) (length (held .sets)))
+
+-- the start that is set fits
+pub start-fits : (held : Lay) (new : List (List ℕ)) (edge : ℕ) → startAnswer held new edge ≡ 0 → StartFits (held .spans) new (newStart held edge)
+unfolding startAnswer newStart
+start-fits held [] edge e = record { higher = λ h. omega arith; below = λ h. absurd (omega arith) }
+start-fits held (us ∷ new) edge e =
+    let r = cond-zero (leb limit (newStart held edge)) 9 0 (omega arith) e in
+    record { higher = λ h. omega arith; below = λ h. leb-false limit (newStart held edge) (r .0) }
+
+-- ---- where a plan's last range starts
+
+last-append : (ss : List Span) (t : Span) → lastStart (ss ++ t ∷ []) ≡ t .start
+unfolding lastStart
+last-append [] t = refl
+last-append (s ∷ []) t = refl
+last-append (s ∷ q ∷ ss) t = last-append (q ∷ ss) t
+
+pub plan-last : (held : Lay) (drops : List ℕ) (new : List (List ℕ)) (start : ℕ) → lastStart (planned held drops new start .spans) ≡ cond (ltb 0 (length new)) start (lastStart (held .spans))
+unfolding planned
+plan-last held drops [] start = ap lastStart (append-nil (held .spans))
+plan-last held drops (us ∷ new) start = last-append (held .spans) (record { start = start; uses = suc (length new) }) ∙ sym (rw (lt-ltb 0 (suc (length new)) (omega arith)))

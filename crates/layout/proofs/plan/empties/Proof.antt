@@ -1,0 +1,71 @@
+use Prim.Native.Nat.{_-_}
+use native.Mathlib.Omega.{arith}
+use mathlib.Core.Path.{_≡_, refl, sym, ap, _∙_}
+use mathlib.Core.Bool.{_||_}
+use mathlib.Core.List.{map}
+use lib.Dec.{eqb}
+use lib.ListN.{length, take, drop}
+use Rattle.layout.specs.Value.{unitsIn}
+use Rattle.layout.specs.Plan.{emptied}
+use Rattle.layout.proofs.Fronts.{pastSets, any-front, any-front-over}
+use Rattle.layout.proofs.Thinning.{any-emptied}
+use Rattle.layout.proofs.plan.empties.Statement.{statement}
+use Rattle.layout.proofs.plan.empties.Tie as tie
+
+abbrev Inv-loop : tie.InvT-loop
+Inv-loop count drops sets n lost₀ i₀ lost i = (lost || emptied drops (drop i (map unitsIn (take count sets)))) ≡ emptied drops (map unitsIn (take count sets))
+
+abbrev μ-loop : tie.MeasureT-loop
+μ-loop count drops sets n lost₀ i₀ lost i = n - i
+
+room : (c : tie.Start Inv-loop μ-loop) → length (c .args .t1) ≡ 16
+room c = c .good .0 .1 .0 .1
+
+clip-requires : tie.Need-clip-requires Inv-loop μ-loop
+clip-requires c κs = tt
+
+loop-holds : tie.Need-loop-holds Inv-loop μ-loop
+loop-holds c = refl
+
+mul-c : tie.Need-mul-c Inv-loop μ-loop
+mul-c c = omega arith
+
+array-copy-out-c : tie.Need-array-copy-out-c Inv-loop μ-loop
+array-copy-out-c c = omega arith
+
+shrunk-requires : tie.Need-shrunk-requires Inv-loop μ-loop
+shrunk-requires c κs = tt
+
+add-i : tie.Need-add-i Inv-loop μ-loop
+add-i c = omega arith
+
+loop-less : tie.Need-loop-less Inv-loop μ-loop
+loop-less c = omega arith
+
+loop-again : tie.Need-loop-again Inv-loop μ-loop
+loop-again c =
+    let l = c .before .before .before .before in
+    let s = l .before .before .before in
+    any-front (any-emptied (s .args .drops .now)) unitsIn (s .args .count) 16 (s .args .t1) (room s) (l .loop .i) (l .loop .lost) pastSets _ (omega arith) (ap (λ k. eqb (k .count) 0) (c .before .shrunk .ensures)) ∙ l .loop .inv
+
+returns : tie.Need-returns Inv-loop μ-loop
+returns c =
+    let l = c .before in
+    let s = l .before .before .before in
+    sym (any-front-over (any-emptied (s .args .drops .now)) unitsIn (s .args .count) 16 (s .args .t1) (room s) (l .loop .i) (l .loop .lost) (omega arith)) ∙ l .loop .inv
+
+pub empties-spec : {M : Type 1} → statement M
+empties-spec =
+    tie.close
+    (tie.spec
+    Inv-loop
+    μ-loop
+    clip-requires
+    loop-holds
+    mul-c
+    array-copy-out-c
+    shrunk-requires
+    add-i
+    loop-less
+    loop-again
+    returns)
