@@ -12,7 +12,7 @@ use Rattle.num.proofs.Tests.{and-both}
 use Rattle.unit.specs.Shape.{small}
 use Rattle.unit.specs.State.{State, lookup, insert, keepFrom, retire, edge, lastEnd}
 use Rattle.unit.specs.Memory.{encode, valid, validSlots}
-use Rattle.unit.specs.Rules.{freshUnit, written, pruned, sealedAt, retired}
+use Rattle.unit.specs.Unit.{freshUnit, writeSays, written, writeUnit, readSays, readShows, trimSays, retired, trimmedAt, trimUnit, pruneSays, pruned, prunedTo, pruneUnit, sealSays, sealTells, sealedAt, sealUnit}
 use Rattle.unit.proofs.Freshness.{fresh-fine, fresh-made}
 use Rattle.examples.specs.declared.ask.Row.{Row}
 use Rattle.examples.specs.declared.ask.Told.{Told}
@@ -20,7 +20,7 @@ use Rattle.examples.specs.Asks.{toldOf, leftBy}
 use Rattle.examples.specs.Table.{rows}
 use Rattle.examples.specs.Marked.{blank, after, sameTold, Marked}
 use Rattle.examples.proofs.Telling.{told-eq}
-use Rattle.examples.proofs.Units.{sound, sure, filled, tells, next, tells-right, leaves-next}
+use Rattle.examples.proofs.Units.{sure, filled, tells, next, tells-right, leaves-next}
 
 same-eq : (a b : Told) → sameTold a b ≡ true → a ≡ b
 same-eq a b h =
@@ -31,7 +31,7 @@ same-eq a b h =
 -- every row answers as it expects, from the unit u on
 passes : State → List Row → Bool
 passes u [] = true
-passes u (r ∷ rs) = sound u && (sure u (r .asked) && (sameTold (tells u (r .asked)) (r .told) && passes (next u (r .asked)) rs))
+passes u (r ∷ rs) = valid small u && (sure u (r .asked) && (sameTold (tells u (r .asked)) (r .told) && passes (next u (r .asked)) rs))
 
 record Passed (u : State) (r : Row) (rs : List Row) : Type 0 where
   told-right : toldOf (encode small u) (r .asked) ≡ r .told
@@ -42,7 +42,7 @@ first-passed : (u : State) (r : Row) (rs : List Row) → passes u (r ∷ rs) ≡
 unfolding passes
 first-passed u r rs h =
     let a = r .asked in
-    let (s, h1) = and-both (sound u) (sure u a && (sameTold (tells u a) (r .told) && passes (next u a) rs)) h in
+    let (s, h1) = and-both (valid small u) (sure u a && (sameTold (tells u a) (r .told) && passes (next u a) rs)) h in
     let (t, h2) = and-both (sure u a) (sameTold (tells u a) (r .told) && passes (next u a) rs) h1 in
     let (e, later) = and-both (sameTold (tells u a) (r .told)) (passes (next u a) rs) h2 in
     record { told-right = tells-right u s a t ∙ same-eq (tells u a) (r .told) e; left = leaves-next u s a t; later = later }
@@ -62,7 +62,7 @@ tail (r ∷ rs) = rs
 
 -- the test, computed: every row but the first, which makes the unit 1
 all : passes (freshUnit 1) (tail rows) ≡ true
-unfolding passes rows sound sure tells next filled valid validSlots lookup insert keepFrom retire lastEnd edge written pruned sealedAt retired
+unfolding passes rows sure tells next filled valid validSlots lookup insert keepFrom retire lastEnd edge writeSays written writeUnit readSays readShows trimSays retired trimmedAt trimUnit pruneSays pruned prunedTo pruneUnit sealSays sealTells sealedAt sealUnit
 all = refl
 
 -- THE MARKED EXAMPLES HOLD

@@ -1,7 +1,7 @@
 -- Laws of good memory: a slot's goodness at an offset, and one turn of the loop over the slots.
-use Prim.Native.Nat.{ℕ, zero, suc, _+_, _*_, _-_, _^_, _<_, _≤_}
+use Prim.Native.Nat.{ℕ, suc, _+_, _*_, _-_, _<_, _≤_}
 use mathlib.Core.Bool.{Bool, true, false, _&&_, _||_}
-use mathlib.Core.List.{List, [], _∷_}
+use mathlib.Core.List.{List}
 use mathlib.Core.Path.{_≡_, refl, sym, ap, _∙_}
 use native.Mathlib.Omega.{arith}
 use native.Mathlib.Nat.{add-assoc}
@@ -11,7 +11,7 @@ use lib.ListN.{length, getD, drop, length-drop}
 use lib.Seq.{getD-drop, drop-drop}
 use Rattle.num.specs.Bytes.{le}
 use Rattle.unit.specs.Zeros.{zeros}
-use Rattle.unit.specs.Shape.{Shape, small, slotSize, memorySize}
+use Rattle.unit.specs.Shape.{Shape, slotSize, memorySize}
 use Rattle.num.specs.Limits.{limit}
 use Rattle.num.proofs.Tests.{and-both}
 use Rattle.unit.specs.Memory.{goodFields, goodSlot, goodSlots, goodHeader, good, floorOf, countOf, numberOf}
@@ -71,12 +71,6 @@ module _ {sh : Shape} {m : List ℕ} {count low left least at : ℕ} (k : Checke
   checked-step =
       let e : left ≡ suc (left - 1) = omega arith in
       k .rest ∙ ap (λ (n : ℕ). goodSlots sh n least (drop at m)) e ∙ rw (drop-drop (slotSize sh) at m)
-
-  pub checked-room : at + slotSize sh ≤ length m
-  checked-room =
-      let e : left ≡ suc (left - 1) = omega arith in
-      let r : at + suc (left - 1) * slotSize sh ≤ length m = rw e at (k .room) in
-      omega arith
 
   pub checked-stop : (g : Bool) → g ≡ goodSlot (sh .cap) least (drop at m) → g ≡ false → false ≡ goodSlots sh count low (drop 24 m)
   checked-stop g hg e = sym (checked-step ∙ rw (← hg, e))

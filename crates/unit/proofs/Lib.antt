@@ -5,10 +5,16 @@ pub mod Places
 pub mod Answers
 pub mod Stores
 pub mod Encoding
+pub mod Inserting
 pub mod Decoding
 pub mod Pruning
 pub mod Sealing
 pub mod Trimming
+pub mod Lookup
 pub mod Keeping
 pub mod Freshness
-pub mod Showing
+pub mod Holding
+pub mod Lasting
+pub mod Shown
+pub mod Marks
+pub mod Payload

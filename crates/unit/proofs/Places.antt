@@ -1,13 +1,13 @@
 -- Laws of slots by position: the loop that counts the slots before a position, and what `lookup` finds there.
 use Prim.Native.Nat.{ℕ, zero, suc, _+_, _*_, _-_, _<_, _≤_}
-use mathlib.Core.Bool.{Bool, true, false, _&&_, cond}
+use mathlib.Core.Bool.{Bool, true, false, cond}
 use mathlib.Core.List.{List, [], _∷_}
 use mathlib.Core.Path.{_≡_, refl, sym, ap, _∙_}
 use native.Mathlib.Omega.{arith}
-use native.Mathlib.Nat.{add-assoc, sub-zero, zero-add, zero-mul, not-suc-le-zero, le-of-suc-le-suc, mul-le-mul-right, le-trans}
+use native.Mathlib.Nat.{sub-zero, zero-add, zero-mul, not-suc-le-zero, le-of-suc-le-suc, mul-le-mul-right, le-trans}
 use native.Mathlib.Numerals.{add-one}
-use borrow.Author.Tests.{ltb-true, ltb-false, eqb-true, eqb-false, eq-eqb, ne-eqb, lt-ltb, le-ltb}
-use lib.Dec.{leb, ltb, eqb, leb·suc-suc}
+use borrow.Author.Tests.{ltb-true, ltb-false, eqb-true, eq-eqb, ne-eqb, lt-ltb, le-ltb}
+use lib.Dec.{ltb, eqb, leb·suc-suc}
 use lib.ListN.{length, getD, take, drop}
 use lib.Seq.{getD-drop, drop-drop}
 use Rattle.num.specs.Bytes.{le}
@@ -15,7 +15,7 @@ use Rattle.unit.specs.Shape.{Shape, slotSize}
 use Rattle.unit.specs.State.{Slot, nothing, lookup, before}
 use Rattle.unit.specs.Memory.{slotAt, slotsAt, goodSlot, goodSlots, good, decode, placeOf, countOf, floorOf}
 use Rattle.num.proofs.Tests.{left-step, and-both}
-use Rattle.unit.proofs.Goodness.{FieldsGood, slot-fields, is-good}
+use Rattle.unit.proofs.Goodness.{slot-fields, is-good}
 
 pub slots-length : (sh : Shape) (n : ℕ) (xs : List ℕ) → length (slotsAt sh n xs) ≡ n
 unfolding slotsAt

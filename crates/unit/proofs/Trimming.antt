@@ -1,42 +1,31 @@
 -- A slot overwritten by a trimmed one is the encoding of the unit with that slot retired.
-use Prim.Native.Nat.{ℕ, zero, suc, _+_, _*_, _-_, _<_, _≤_}
-use mathlib.Core.Bool.{Bool, true, false, _&&_, cond}
+use Prim.Native.Nat.{ℕ, zero, suc, _+_, _*_, _-_, _≤_}
+use mathlib.Core.Bool.{Bool, true, false, cond}
 use mathlib.Core.List.{List, [], _∷_, _++_, append-assoc}
 use mathlib.Core.Path.{_≡_, refl, sym, ap, _∙_}
 use native.Mathlib.Omega.{arith}
 use native.Mathlib.Nat.{zero-mul, mul-le-mul-right}
-use borrow.Author.Tests.{ltb-true, ltb-false, eqb-true, eqb-false, le-ltb}
+use borrow.Author.Tests.{ltb-false, eqb-true, eqb-false, le-ltb}
 use lib.Dec.{ltb, eqb}
-use lib.ListN.{length, take, drop, replicate, length-drop, take-append-drop, length-append}
-use lib.Seq.{sets, sets-eq, take-add, drop-drop, length-take-le}
+use lib.ListN.{length, take, drop, replicate, length-drop}
+use lib.Seq.{sets, sets-eq, take-add, drop-drop}
 use Rattle.num.specs.Bytes.{le, leBytes}
 use Rattle.unit.specs.Zeros.{zeros}
-use Rattle.unit.specs.Shape.{Shape, slotSize, memorySize}
+use Rattle.unit.specs.Shape.{Shape, slotSize}
 use Rattle.unit.specs.State.{Slot, page, lookup, before, retire}
 use Rattle.unit.specs.Memory.{slotAt, slotsAt, goodSlots, good, decode, encode, placeOf, countOf, floorOf, slotBytes, slotsBytes}
-use Rattle.unit.specs.Rules.{retired}
+use Rattle.unit.specs.Unit.{retired}
 use Rattle.num.proofs.Numbers.{Bytes, bytes-drop, le-back}
 use Rattle.unit.proofs.Goodness.{is-good}
 use Rattle.unit.proofs.Places.{slots-length, lookup-step, lookup-below, before-step, good-step}
 use Rattle.unit.proofs.Fields.{zeros-back}
-use Rattle.unit.proofs.Encoding.{slot-back, slots-back, slots-cons, slot-length, left-over, encode-slots, part-split, spare-back}
+use Rattle.unit.proofs.Lookup.{retire-length}
+use Rattle.unit.proofs.Encoding.{slot-back, slots-back, slots-cons, slot-length, left-over, encode-slots}
 
 retire-step : (sh : Shape) (n p : ℕ) (xs : List ℕ) → retire p (slotsAt sh (suc n) xs)
     ≡ cond (eqb (le 8 xs) p) (page p 3 [] ∷ slotsAt sh n (drop (slotSize sh) xs)) (slotAt xs ∷ retire p (slotsAt sh n (drop (slotSize sh) xs)))
 unfolding slotsAt slotAt retire
 retire-step sh n p xs = refl
-
-retire-length : (sh : Shape) (n p : ℕ) (xs : List ℕ) → length (retire p (slotsAt sh n xs)) ≡ n
-unfolding slotsAt retire
-retire-length sh zero p xs = refl
-retire-length sh (suc n) p xs = rw (retire-step sh n p xs) (go (eqb (le 8 xs) p) (retire-length sh n p (drop (slotSize sh) xs)))
-  where
-    rest : List ℕ
-    rest = drop (slotSize sh) xs
-
-    go : (c : Bool) → length (retire p (slotsAt sh n rest)) ≡ n → length (cond c (page p 3 [] ∷ slotsAt sh n rest) (slotAt xs ∷ retire p (slotsAt sh n rest))) ≡ suc n
-    go true e = ap suc (slots-length sh n rest)
-    go false e = ap suc e
 
 -- xs with the kth slot's bytes replaced
 abbrev replaced : Shape → List ℕ → Slot → ℕ → List ℕ
@@ -135,5 +124,5 @@ trim-bytes sh m p at b g ea hz hat =
     = sets-eq S m at (omega arith) ∙ rw (t, d, append-assoc, append-assoc) in
     let right : encode sh (retired (decode sh m) p) ≡ take 24 m ++ replaced sh body (page p 3 []) k
     = encode-slots sh m b l24 (retired (decode sh m) p) refl refl refl
-    ∙ rw (retire-length sh n p body, left-over sh m n size, new, c, h24) (simp append-assoc) in
+    ∙ rw (retire-length p (slotsAt sh n body), slots-length sh n body, left-over sh m n size, new, c, h24) (simp append-assoc) in
     left ∙ sym right

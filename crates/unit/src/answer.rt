@@ -1,9 +1,8 @@
 // The lowest number that applies, over numbers alone: the rows of each table from the last up.
 ghost use mathlib.Core.Path.{_≡_};
-ghost use mathlib.Core.Bool.{cond};
 ghost use Rattle.unit.specs.Shape.{small};
 ghost use Rattle.num.specs.Checks.{lowest};
-ghost use Rattle.unit.specs.Rules.{readTable, writeTable, pruneTable, sealTable, trimTable};
+ghost use Rattle.unit.specs.Unit.{readTable, writeTable, pruneTable, sealTable, trimTable};
 use crate::memory::Unit;
 use num::answer::Answer;
 use num::answer::pick;

@@ -3,7 +3,7 @@ ghost use mathlib.Core.Path.{_≡_};
 ghost use Prim.Native.Nat.{_+_, _*_, _≤_};
 ghost use lib.ListN.{length, drop};
 ghost use Rattle.unit.specs.Shape.{small};
-ghost use Rattle.unit.specs.Memory.{goodFields, goodSlot, goodSlots, goodHeader, good as goodMemory, floorOf, countOf};
+ghost use Rattle.unit.specs.Memory.{goodFields, goodSlot, goodSlots, goodHeader, good as goodMemory};
 use crate::field::number_at;
 use crate::field::zeros_at;
 use num::bytes::size;

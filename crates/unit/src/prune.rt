@@ -1,13 +1,12 @@
 // Raising the floor.
 ghost use mathlib.Core.Path.{_≡_};
-ghost use mathlib.Core.Bool.{true, cond};
-ghost use lib.Dec.{ltb};
+ghost use mathlib.Core.Bool.{true};
 ghost use lib.ListN.{drop};
 ghost use Rattle.unit.specs.Shape.{small};
 ghost use Rattle.unit.specs.State.{before};
 ghost use Rattle.unit.specs.Memory.{slotsAt, decode, encode, countOf, good as goodMemory};
 ghost use Rattle.num.specs.Checks.{lowest};
-ghost use Rattle.unit.specs.Rules.{pruneTable, pruned};
+ghost use Rattle.unit.specs.Unit.{pruneTable, pruned, prunedTo};
 ghost use Rattle.unit.specs.Promises.{IsPruned};
 use crate::answer::prune_number;
 use crate::field::number_at;
@@ -33,7 +32,7 @@ fn cut(mem: &mut [u8], p: u64, count: u64, passed: u64)
 // Raises the floor of a good memory to `p`, unless it stands there already.
 fn raise_floor(mem: &mut [u8], p: u64)
     requires { ⌜ goodMemory small (now mem) ≡ true ⌝ }
-    ensures { λ _. ⌜ now (mem .exit) ≡ cond (ltb (decode small (now (mem .entry)) .floor) p) (encode small (pruned (decode small (now (mem .entry))) p)) (now (mem .entry)) ⌝ }
+    ensures { λ _. ⌜ now (mem .exit) ≡ encode small (prunedTo (decode small (now (mem .entry))) p) ⌝ }
 {
     if number_at(mem, 8, 8) < p {
         let count = number_at(mem, 16, 2);

@@ -6,7 +6,7 @@ ghost use Rattle.unit.specs.Shape.{small};
 ghost use Rattle.unit.specs.State.{edge};
 ghost use Rattle.unit.specs.Memory.{decode, encode, good as goodMemory};
 ghost use Rattle.num.specs.Checks.{lowest};
-ghost use Rattle.unit.specs.Rules.{sealTable, sealedAt};
+ghost use Rattle.unit.specs.Unit.{sealTable, sealedAt};
 ghost use Rattle.unit.specs.Promises.{IsSealed};
 use crate::answer::seal_number;
 use crate::field::number_at;

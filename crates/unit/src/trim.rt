@@ -7,7 +7,7 @@ ghost use Rattle.unit.specs.Shape.{small};
 ghost use Rattle.unit.specs.State.{lookup};
 ghost use Rattle.unit.specs.Memory.{decode, encode, placeOf, countOf, good as goodMemory};
 ghost use Rattle.num.specs.Checks.{lowest};
-ghost use Rattle.unit.specs.Rules.{trimChecks, retired, trimmedMemory};
+ghost use Rattle.unit.specs.Unit.{trimChecks, retired, trimmedAt};
 ghost use Rattle.unit.specs.Promises.{IsTrimmed};
 use crate::answer::trim_number;
 use crate::field::number_at;
@@ -33,7 +33,7 @@ fn trim_page(mem: &mut [u8], at: usize, held: u8, count: u64, p: u64)
     requires { ⌜ goodMemory small (now mem) ≡ true ⌝ }
     requires { ⌜ (at ≡ placeOf small (now mem) p) × (held ≡ lookup p (decode small (now mem) .slots) .kind) × (count ≡ countOf (now mem)) ⌝ }
     requires { ⌜ (leb (decode small (now mem) .floor) p && eqb (lookup p (decode small (now mem) .slots) .kind) 0 && leb 128 (length (decode small (now mem) .slots))) ≡ false ⌝ }
-    ensures { λ _. ⌜ now (mem .exit) ≡ trimmedMemory small (now (mem .entry)) p ⌝ }
+    ensures { λ _. ⌜ now (mem .exit) ≡ encode small (trimmedAt (decode small (now (mem .entry))) p) ⌝ }
 {
     let floor = number_at(mem, 8, 8);
     if p < floor {

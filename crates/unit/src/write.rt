@@ -10,7 +10,7 @@ ghost use Rattle.unit.specs.Shape.{small};
 ghost use Rattle.unit.specs.State.{page, lookup};
 ghost use Rattle.unit.specs.Memory.{slotBytes, decode, encode, placeOf, countOf, good as goodMemory};
 ghost use Rattle.num.specs.Checks.{lowest};
-ghost use Rattle.unit.specs.Rules.{written, writeChecks};
+ghost use Rattle.unit.specs.Unit.{written, writeChecks};
 ghost use Rattle.unit.specs.Promises.{IsWritten};
 use crate::answer::write_number;
 use crate::field::number_at;

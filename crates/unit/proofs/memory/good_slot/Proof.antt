@@ -1,8 +1,8 @@
 use borrow.Author.Needs.{needs}
-use Prim.Native.Nat.{ℕ, _+_, _≤_}
+use Prim.Native.Nat.{_+_, _≤_}
 use native.Mathlib.Omega.{arith}
-use mathlib.Core.Path.{_≡_, sym, _∙_}
-use lib.ListN.{length, getD, drop}
+use mathlib.Core.Path.{sym, _∙_}
+use lib.ListN.{getD}
 use Rattle.unit.proofs.Goodness.{slot-no, slot-yes, fields-good}
 use Rattle.unit.proofs.memory.good_slot.Statement.{statement}
 use Rattle.unit.proofs.memory.good_slot.Tie as tie

@@ -1,13 +1,10 @@
 -- `memory::good_slots` meets its contract. The invariant and its steps are `Goodness`'s `Checked`.
-use Prim.Native.Nat.{ℕ, _+_, _≤_, _<_}
-use mathlib.Core.Path.{_≡_, sym, _∙_}
+use mathlib.Core.Path.{sym, _∙_}
 use borrow.Author.Tests.{not-true, not-false}
 use native.Mathlib.Omega.{arith}
-use lib.ListN.{length, drop}
-use Rattle.num.specs.Bytes.{le}
+use lib.ListN.{drop}
 use Rattle.unit.specs.Shape.{small}
-use Rattle.num.specs.Limits.{limit}
-use Rattle.unit.proofs.Goodness.{Checked, checked-none, checked-room, checked-stop, checked-more, checked-all, slot-fields}
+use Rattle.unit.proofs.Goodness.{Checked, checked-none, checked-stop, checked-more, checked-all, slot-fields}
 use Rattle.unit.proofs.memory.good_slots.Statement.{statement}
 use Rattle.unit.proofs.memory.good_slots.Tie as tie
 use Rattle.unit.proofs.memory.good_slots.Reads as reads

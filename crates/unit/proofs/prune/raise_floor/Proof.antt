@@ -1,9 +1,7 @@
-use Prim.Native.Nat.{ℕ, _≤_}
-use mathlib.Core.Path.{_≡_, refl, sym, _∙_}
 use native.Mathlib.Omega.{arith}
-use lib.ListN.{length}
 use Rattle.unit.specs.Shape.{small}
 use Rattle.unit.proofs.Goodness.{is-good}
+use Rattle.unit.proofs.Encoding.{unchanged}
 use Rattle.unit.proofs.Pruning.{floor-below, floor-above}
 use borrow.Author.Needs.{needs}
 use Rattle.unit.proofs.prune.raise_floor.Statement.{statement}
@@ -43,7 +41,7 @@ same-length-2 c = search needs
 returns-2 : tie.Need-returns-2
 returns-2 c =
     let s = c .before .before .before .before in
-    rw (floor-above small (s .args .mem .now) _ (s .args .p) (c .before .number-at .ensures) (c .if1 .left))
+    unchanged small (s .args .mem .now) (c .before .before .before .slice-known .given) (s .pre) (floor-above small (s .args .mem .now) _ (s .args .p) (c .before .number-at .ensures) (c .if1 .left))
 
 pub raise-floor-spec : {M : Type 1} → statement M
 raise-floor-spec =
