@@ -5,6 +5,5 @@ pub mod Places
 pub mod Successor
 pub mod Plan
 pub mod Holder
-pub mod UniquePlaces
 pub mod Growing
 pub mod Unique
