@@ -5,3 +5,8 @@ pub mod History
 pub mod Events
 pub mod Edges
 pub mod Safety
+pub mod Layouts
+pub mod Pages
+pub mod Runs
+pub mod Demand
+pub mod LastSentence

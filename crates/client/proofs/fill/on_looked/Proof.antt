@@ -1,0 +1,41 @@
+-- `client::fill::on_looked` meets its contract.
+use borrow.Author.Needs.{needs}
+use Rattle.client.specs.Fill.{onLooked}
+use Rattle.client.proofs.Answers.{not-shown}
+use Rattle.client.proofs.fill.on_looked.Statement.{statement}
+use Rattle.client.proofs.fill.on_looked.Tie as tie
+
+enum-told : tie.Need-enum-told
+enum-told c = search needs
+
+number-of-requires : tie.Need-number-of-requires
+number-of-requires c κs = search needs
+
+otherwise-requires : tie.Need-otherwise-requires
+otherwise-requires c κs = search needs
+
+returns : tie.Need-returns
+unfolding onLooked
+returns c = rw (c .otherwise .ensures, c .before .number-of .ensures, not-shown _ (c .before .before .match .keys2))
+
+carrying-requires : tie.Need-carrying-requires
+carrying-requires c κs = search needs
+
+fills-on-requires : tie.Need-fills-on-requires
+fills-on-requires c κs = search needs
+
+returns-2 : tie.Need-returns-2
+unfolding onLooked
+returns-2 c = rw (c .fills-on .ensures, c .before .carrying .ensures, c .before .before .enum-told .given .1)
+
+pub on-looked-spec : {M : Type 1} → statement M
+on-looked-spec =
+    tie.close
+    (tie.spec
+    enum-told
+    number-of-requires
+    otherwise-requires
+    returns
+    carrying-requires
+    fills-on-requires
+    returns-2)

@@ -1,0 +1,23 @@
+-- `client::turn::otherwise` meets its contract.
+use borrow.Author.Tests.{eq-eqb, ne-eqb}
+use borrow.Author.Needs.{needs}
+use Rattle.client.specs.Turn.{otherwise}
+use Rattle.client.proofs.turn.otherwise.Statement.{statement}
+use Rattle.client.proofs.turn.otherwise.Tie as tie
+
+rests-requires : tie.Need-rests-requires
+rests-requires c κs = search needs
+
+ends-requires : tie.Need-ends-requires
+ends-requires c κs = search needs
+
+returns : tie.Need-returns
+unfolding otherwise
+returns c = rw (c .rests .ensures, eq-eqb _ _ (c .before .if1 .taken))
+
+returns-2 : tie.Need-returns-2
+unfolding otherwise
+returns-2 c = rw (c .ends .ensures, ne-eqb _ _ (c .before .if1 .left))
+
+pub otherwise-spec : {M : Type 1} → statement M
+otherwise-spec = tie.close (tie.spec rests-requires ends-requires returns returns-2)

@@ -1,0 +1,66 @@
+-- An operation begins, is given up, or is forgotten with the client's life.
+use Prim.Native.Nat.{ℕ, _+_}
+use mathlib.Core.Bool.{cond}
+use mathlib.Core.List.{List, [], _∷_, _++_}
+use lib.Dec.{eqb, leb}
+use Rattle.num.specs.Checks.{Check, lowest, _if_}
+use Rattle.layout.specs.Value.{blank}
+use Rattle.client.specs.declared.message.Ask.the-variants.{Fetch}
+use Rattle.client.specs.declared.state.Job.{Job}
+use Rattle.client.specs.declared.state.Stage.the-variants.{Fetching}
+use Rattle.client.specs.declared.state.Client.{Client}
+use Rattle.client.specs.declared.turn.Turn.{Turn}
+use Rattle.client.specs.declared.begin.Begun.{Begun}
+use Rattle.client.specs.declared.begin.Restarted.{Restarted}
+use Rattle.client.specs.Message.{plain}
+use Rattle.client.specs.Client.{lastNumber, lastLife, busy, idle}
+use Rattle.client.specs.Turn.{rests, ends, sends}
+use Rattle.client.specs.Job.{jobChecks, positionFor, pageFor, changeFor}
+
+-- 18: client has an operation. 19: request number 2^32 - 1 used
+abbrev pub readyChecks : Client → List Check
+readyChecks c = 18 if busy (c .stage) ∷ 19 if leb lastNumber (c .used .0) ∷ []
+
+unfoldable pub readyAnswer : Client → ℕ
+readyAnswer c = lowest (readyChecks c)
+
+-- position and page come after them (the yard has its own 16 between)
+unfoldable pub beginAnswer : Client → Job → ℕ
+beginAnswer c j = lowest (readyChecks c ++ jobChecks j)
+
+-- the client with the operation
+unfoldable pub withJob : Client → Job → Client
+withJob c j = record {
+  life = c .life;
+  used = c .used;
+  begun = c .used;
+  stage = Fetching;
+  work = j .work;
+  change = changeFor (j .work) (j .change);
+  position = positionFor (j .work);
+  page = pageFor (j .work) (j .len) (j .bytes);
+  layout = blank;
+  plan = blank;
+}
+
+-- every operation first fetches the layout; a refusal uses no number, and nothing is sent
+unfoldable pub beginTurn : Client → Job → Turn
+beginTurn c j = cond (eqb (beginAnswer c j) 0) (sends (withJob c j) (plain Fetch)) (rests c)
+
+abbrev pub beginStep : Client → Job → Begun
+beginStep c j = record { answer = beginAnswer c j; turn = beginTurn c j }
+
+-- 20: the client was told to give up. "Giving up at an idle client is fine and changes nothing"
+unfoldable pub giveUp : Client → Turn
+giveUp c = cond (busy (c .stage)) (ends c 20) (rests c)
+
+-- 19: life 65,535
+unfoldable pub restartAnswer : Client → ℕ
+restartAnswer c = lowest (19 if leb lastLife (c .life) ∷ [])
+
+-- "its operation forgotten, life plus 1, numbers unused again"
+unfoldable pub restarted : Client → Client
+restarted c = cond (leb lastLife (c .life)) c (idle (c .life + 1) (record { 0 = 0 }))
+
+abbrev pub restartStep : Client → Restarted
+restartStep c = record { answer = restartAnswer c; client = restarted c }

@@ -1,0 +1,73 @@
+-- What an operation asks for, as it is when it begins.
+use Prim.Native.Nat.{ℕ}
+use mathlib.Core.Bool.{Bool, false}
+use mathlib.Core.List.{List, [], _∷_}
+use lib.Dec.{leb, ltb}
+use lib.ListN.{take}
+use Rattle.num.specs.Limits.{limit}
+use Rattle.num.specs.Checks.{Check, lowest, _if_}
+use Rattle.num.specs.declared.count.Position.{Position}
+use Rattle.layout.specs.Value.{padded}
+use Rattle.client.specs.declared.message.Page.{Page}
+use Rattle.client.specs.declared.state.Work.{Work}
+use Rattle.client.specs.declared.state.Work.the-variants.{Append, Read, Fill, Trim, Prune, Reorganise}
+use Rattle.client.specs.declared.state.Change.{Change}
+use Rattle.client.specs.declared.state.Job.{Job}
+use Rattle.client.specs.Message.{pageLimit, noPage, junk}
+use Rattle.client.specs.Client.{noChange}
+
+-- 2: position of 2^40 or more; prune above 2^40
+abbrev pub past : Work → Bool
+past Append = false
+past (Read p) = leb limit (p .0)
+past (Fill p) = leb limit (p .0)
+past (Trim p) = leb limit (p .0)
+past (Prune p) = ltb limit (p .0)
+past Reorganise = false
+
+-- 3: data longer than 32
+abbrev pub tooLong : Work → ℕ → Bool
+tooLong Append len = ltb pageLimit len
+tooLong (Read p) len = false
+tooLong (Fill p) len = false
+tooLong (Trim p) len = false
+tooLong (Prune p) len = false
+tooLong Reorganise len = false
+
+-- "Position and page (2, 3) are checked when an operation begins, after the yard's own checks"
+abbrev pub jobChecks : Job → List Check
+jobChecks j = 2 if past (j .work) ∷ 3 if tooLong (j .work) (j .len) ∷ []
+
+unfoldable pub jobAnswer : Job → ℕ
+jobAnswer j = lowest (jobChecks j)
+
+-- ---- what the client then keeps of it
+
+abbrev pub positionFor : Work → Position
+positionFor Append = record { 0 = 0 }
+positionFor (Read p) = p
+positionFor (Fill p) = p
+positionFor (Trim p) = p
+positionFor (Prune p) = p
+positionFor Reorganise = record { 0 = 0 }
+
+-- data of a length, blank past it
+unfoldable pub dataPage : ℕ → List ℕ → Page
+dataPage len bytes = record { kind = 1; len = len; bytes = padded pageLimit 0 (take len bytes) }
+
+-- an append carries its data, a fill junk
+abbrev pub pageFor : Work → ℕ → List ℕ → Page
+pageFor Append len bytes = dataPage len bytes
+pageFor (Read p) len bytes = noPage
+pageFor (Fill p) len bytes = junk
+pageFor (Trim p) len bytes = noPage
+pageFor (Prune p) len bytes = noPage
+pageFor Reorganise len bytes = noPage
+
+abbrev pub changeFor : Work → Change → Change
+changeFor Append ch = noChange
+changeFor (Read p) ch = noChange
+changeFor (Fill p) ch = noChange
+changeFor (Trim p) ch = noChange
+changeFor (Prune p) ch = noChange
+changeFor Reorganise ch = ch

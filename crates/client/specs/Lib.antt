@@ -1,0 +1,13 @@
+pub mod Message
+pub mod Client
+pub mod Turn
+pub mod Job
+pub mod Begin
+pub mod Way
+pub mod Append
+pub mod Read
+pub mod Fill
+pub mod Trim
+pub mod Reorganise
+pub mod Take
+pub mod Unique

@@ -1,0 +1,98 @@
+-- What a client sends and what is handed back to it.
+use Prim.Native.Nat.{ℕ}
+use lib.ListN.{replicate}
+use Rattle.num.specs.declared.count.Position.{Position}
+use Rattle.layout.specs.declared.value.Layout.{Layout}
+use Rattle.layout.specs.Value.{blank}
+use Rattle.client.specs.declared.message.Page.{Page}
+use Rattle.client.specs.declared.message.Ask.{Ask}
+use Rattle.client.specs.declared.message.Ask.the-variants.{Fetch, Offer}
+use Rattle.client.specs.declared.message.Query.{Query}
+use Rattle.client.specs.declared.message.Reply.{Reply}
+use Rattle.client.specs.declared.message.Response.{Response}
+use Rattle.client.specs.declared.message.Reply.the-variants.{Held, Given, Fine, Shown, Edge, Refused}
+
+-- data pages hold 0 to 32 bytes
+abbrev pub pageLimit : ℕ
+pageLimit = 32
+
+-- no page: what stands where none is given
+abbrev pub noPage : Page
+noPage = record { kind = 0; len = 0; bytes = replicate pageLimit 0 }
+
+abbrev pub junk : Page
+junk = record { kind = 2; len = 0; bytes = replicate pageLimit 0 }
+
+-- ---- requests
+
+-- with no page and no layout
+abbrev pub plain : Ask → Query
+plain a = record { ask = a; page = noPage; layout = blank }
+
+-- with a page
+abbrev pub bearing : Ask → Page → Query
+bearing a g = record { ask = a; page = g; layout = blank }
+
+-- the offer of a layout
+abbrev pub offering : Layout → Query
+offering l = record { ask = Offer; page = noPage; layout = l }
+
+abbrev pub noQuery : Query
+noQuery = plain Fetch
+
+-- ---- answers
+
+-- what stands where nothing is answered: it answers no request
+abbrev pub noResponse : Response
+noResponse = record { reply = Refused 0; page = noPage; layout = blank }
+
+-- the paper's number of each, 0 where it is no refusal
+abbrev pub numberOf : Reply → ℕ
+numberOf Held = 0
+numberOf (Given p) = 0
+numberOf Fine = 0
+numberOf Shown = 0
+numberOf (Edge p) = 0
+numberOf (Refused n) = n
+
+-- ---- what an answer gives where it is the expected one, and what any other gives
+
+abbrev pub ifHeld : {A : Type 0} → Reply → A → A → A
+ifHeld Held a d = a
+ifHeld (Given p) a d = d
+ifHeld Fine a d = d
+ifHeld Shown a d = d
+ifHeld (Edge p) a d = d
+ifHeld (Refused n) a d = d
+
+abbrev pub ifGiven : {A : Type 0} → Reply → (Position → A) → A → A
+ifGiven Held f d = d
+ifGiven (Given p) f d = f p
+ifGiven Fine f d = d
+ifGiven Shown f d = d
+ifGiven (Edge p) f d = d
+ifGiven (Refused n) f d = d
+
+abbrev pub ifFine : {A : Type 0} → Reply → A → A → A
+ifFine Held a d = d
+ifFine (Given p) a d = d
+ifFine Fine a d = a
+ifFine Shown a d = d
+ifFine (Edge p) a d = d
+ifFine (Refused n) a d = d
+
+abbrev pub ifShown : {A : Type 0} → Reply → A → A → A
+ifShown Held a d = d
+ifShown (Given p) a d = d
+ifShown Fine a d = d
+ifShown Shown a d = a
+ifShown (Edge p) a d = d
+ifShown (Refused n) a d = d
+
+abbrev pub ifEdge : {A : Type 0} → Reply → (Position → A) → A → A
+ifEdge Held f d = d
+ifEdge (Given p) f d = d
+ifEdge Fine f d = d
+ifEdge Shown f d = d
+ifEdge (Edge p) f d = f p
+ifEdge (Refused n) f d = d

@@ -1,0 +1,19 @@
+-- Read: ask the tail. The outcome bears the epoch.
+use mathlib.Core.Bool.{cond}
+use Prim.Native.Nat.{ℕ}
+use Rattle.client.specs.declared.message.Ask.the-variants.{Read}
+use Rattle.client.specs.declared.message.Page.{Page}
+use Rattle.client.specs.declared.message.Reply.{Reply}
+use Rattle.client.specs.declared.state.Stage.the-variants.{Reading}
+use Rattle.client.specs.declared.state.Client.{Client}
+use Rattle.client.specs.declared.turn.Turn.{Turn}
+use Rattle.client.specs.Message.{numberOf, plain, ifShown}
+use Rattle.client.specs.Client.{inStage}
+use Rattle.client.specs.Turn.{over, sends, otherwise}
+
+-- asks u
+unfoldable pub reads : Client → ℕ → Turn
+reads c u = sends (inStage c (Reading u)) (plain (Read u (c .layout .epoch) (c .position)))
+
+unfoldable pub onRead : Client → Reply → Page → Turn
+onRead c a g = ifShown a (over c 0 g) (otherwise c (numberOf a))

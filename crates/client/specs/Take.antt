@@ -1,0 +1,65 @@
+-- An answer comes to a client: what it does next.
+use Prim.Native.Nat.{ℕ}
+use mathlib.Core.Bool.{Bool, cond, _&&_}
+use lib.Dec.{eqb}
+use Rattle.layout.specs.declared.value.Layout.{Layout}
+use Rattle.layout.specs.Value.{goodValue}
+use Rattle.client.specs.declared.message.Reply.{Reply}
+use Rattle.client.specs.declared.message.Response.{Response}
+use Rattle.client.specs.declared.message.Stamp.{Stamp}
+use Rattle.client.specs.declared.state.Work.{Work}
+use Rattle.client.specs.declared.state.Work.the-variants.{Append, Read, Fill, Trim, Prune, Reorganise}
+use Rattle.client.specs.declared.state.Stage.{Stage}
+use Rattle.client.specs.declared.state.Stage.the-variants.{Idle, Fetching, Drawing, Writing, Reading, Filling, Looking, Trimming, Pruning, Sealing, Offering, Starting}
+use Rattle.client.specs.declared.state.Client.{Client}
+use Rattle.client.specs.declared.turn.Turn.{Turn}
+use Rattle.client.specs.Message.{numberOf, ifHeld}
+use Rattle.client.specs.Client.{holding}
+use Rattle.client.specs.Turn.{rests, ends, otherwise}
+use Rattle.client.specs.Way.{headFor, tailFor}
+use Rattle.client.specs.Append.{draws, onToken, onWritten}
+use Rattle.client.specs.Read.{reads, onRead}
+use Rattle.client.specs.Fill.{fills, onFilled, onLooked}
+use Rattle.client.specs.Trim.{trims, onTrimmed, prunesOn, onPruned}
+use Rattle.client.specs.Reorganise.{reorganises, onSealed, onOffered, onStarted}
+
+-- ---- the layout is fetched
+
+-- the first request after it
+unfoldable pub goesOn : Work → Client → Turn
+goesOn Append c = draws c 1
+goesOn (Read p) c = reads c (tailFor c)
+goesOn (Fill p) c = fills c (headFor c)
+goesOn (Trim p) c = trims c (headFor c)
+goesOn (Prune p) c = prunesOn c 0
+goesOn Reorganise c = reorganises c
+
+-- "a fetched layout that is not good ends it with 10"
+unfoldable pub holds : Client → Layout → Turn
+holds c l = cond (goodValue l) (goesOn (c .work) (holding c l)) (ends c 10)
+
+unfoldable pub onFetched : Client → Reply → Layout → Turn
+onFetched c a l = ifHeld a (holds c l) (otherwise c (numberOf a))
+
+-- ---- the answer to the outstanding request
+
+unfoldable pub answered : Stage → Client → Response → Turn
+answered Idle c r = rests c
+answered Fetching c r = onFetched c (r .reply) (r .layout)
+answered (Drawing n) c r = onToken c n (r .reply)
+answered (Writing u n) c r = onWritten c u n (r .reply)
+answered (Reading u) c r = onRead c (r .reply) (r .page)
+answered (Filling u) c r = onFilled c u (r .reply)
+answered (Looking u) c r = onLooked c u (r .reply) (r .page)
+answered (Trimming u) c r = onTrimmed c u (r .reply)
+answered (Pruning u) c r = onPruned c u (r .reply)
+answered (Sealing u e) c r = onSealed c u e (r .reply)
+answered (Offering p) c r = onOffered c p (r .reply)
+answered Starting c r = onStarted c (r .reply)
+
+-- "A request bears client, life and number; an answer to anything else is ignored"
+unfoldable pub awaited : ℕ → Client → Stamp → Bool
+awaited me c s = eqb (s .client) me && eqb (s .life) (c .life) && eqb (s .number .0) (c .used .0)
+
+unfoldable pub takes : ℕ → Client → Stamp → Response → Turn
+takes me c s r = cond (awaited me c s) (answered (c .stage) c r) (rests c)

@@ -1,0 +1,45 @@
+-- The way of an operation through the layout that it fetched.
+use Prim.Native.Nat.{ℕ}
+use mathlib.Core.List.{List}
+use lib.ListN.{take}
+use Rattle.num.specs.declared.count.Position.{Position}
+use Rattle.layout.specs.declared.value.Layout.{Layout}
+use Rattle.layout.specs.declared.plan.Planned.{Planned}
+use Rattle.layout.specs.declared.plan.Started.{Started}
+use Rattle.layout.specs.Value.{layOf}
+use Rattle.layout.specs.Places.{headOf, tailOf, after, unitsAt, nextUnit}
+use Rattle.layout.specs.Plan.{plannedFor, startedAt}
+use Rattle.client.specs.declared.state.Change.{Change}
+use Rattle.client.specs.declared.state.Client.{Client}
+
+-- the units of the set of the position under way
+abbrev pub unitsFor : Client → List ℕ
+unitsFor c = unitsAt (c .layout) (c .position .0)
+
+unfoldable pub headFor : Client → ℕ
+headFor c = headOf (unitsFor c)
+
+unfoldable pub tailFor : Client → ℕ
+tailFor c = tailOf (unitsFor c)
+
+-- the unit after u in it; 0 after the tail
+unfoldable pub afterFor : Client → ℕ → ℕ
+afterFor c u = after u (unitsFor c)
+
+-- the next unit of a layout, in rising number; 0 after the last
+unfoldable pub unitAbove : Layout → ℕ → ℕ
+unitAbove l u = nextUnit (layOf l) u
+
+-- ---- of a reorganise
+
+-- the units to drop
+abbrev pub dropsOf : Change → List ℕ
+dropsOf h = take (h .count) (h .drops)
+
+-- 15, 10, 13 or 14; or 0 and the new layout, but for its new range's start
+unfoldable pub planFor : Client → Planned
+planFor c = plannedFor (c .layout) (dropsOf (c .change)) (c .change .wish)
+
+-- 9; or 0, the new layout whole, and where the sequencer is started. e is the largest edge
+unfoldable pub startFor : Client → Position → Started
+startFor c e = startedAt (c .plan) (e .0)

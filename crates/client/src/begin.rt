@@ -1,0 +1,130 @@
+// An operation begins, is given up, or is forgotten with the client's life.
+ghost use mathlib.Core.Path.{_≡_};
+ghost use Rattle.client.specs.Begin.{readyAnswer, beginAnswer, withJob, beginStep, giveUp, restartStep};
+use crate::job::change_for;
+use crate::job::job_answer;
+use crate::job::page_for;
+use crate::job::position_for;
+use crate::message::Ask;
+use crate::message::Query;
+use crate::state::Client;
+use crate::state::Job;
+use crate::state::Stage;
+use crate::turn::Turn;
+use crate::turn::ends;
+use crate::turn::rests;
+use crate::turn::sends;
+use layout::value::Layout;
+use num::answer::Answer;
+use num::answer::pick;
+use num::count::Request;
+
+// What a begin answers, and what comes of it.
+pub struct Begun {
+    pub answer: u8,
+    pub turn: Turn,
+}
+
+// What a restart answers, and the client afterwards.
+pub struct Restarted {
+    pub answer: u8,
+    pub client: Client,
+}
+
+// 18 or 19 where the client takes no operation, and 0 otherwise.
+pub fn ready_answer(client: Client) -> u8
+    ensures { λ r. ⌜ r ≡ readyAnswer client ⌝ }
+{
+    let stage = client.stage;
+    let used = client.used;
+    let busy = stage.is_busy();
+    pick(
+        busy,
+        Answer::BUSY,
+        pick(Request::LAST <= used.0, Answer::NUMBERS_SPENT, 0),
+    )
+}
+
+// 18, 19, 2 or 3, and 0 where the operation begins.
+pub fn begin_answer(client: Client, job: Job) -> u8
+    ensures { λ r. ⌜ r ≡ beginAnswer client job ⌝ }
+{
+    let stage = client.stage;
+    let used = client.used;
+    let busy = stage.is_busy();
+    let asked = job_answer(job);
+    pick(
+        busy,
+        Answer::BUSY,
+        pick(Request::LAST <= used.0, Answer::NUMBERS_SPENT, asked),
+    )
+}
+
+// The client with the operation.
+pub(crate) fn with_job(client: Client, job: Job) -> Client
+    ensures { λ r. ⌜ r ≡ withJob client job ⌝ }
+{
+    let used = client.used;
+    let work = job.work;
+    let bytes = job.bytes;
+    let asked = job.change;
+    let change = change_for(work, asked);
+    let position = position_for(work);
+    let page = page_for(work, job.len, bytes);
+    let layout = Layout::blank();
+    let plan = layout;
+    Client {
+        life: client.life,
+        used,
+        begun: used,
+        stage: Stage::Fetching,
+        work,
+        change,
+        position,
+        page,
+        layout,
+        plan,
+    }
+}
+
+// Every operation first fetches the layout. A refusal uses no number and sends nothing.
+pub fn begin(client: Client, job: Job) -> Begun
+    ensures { λ r. ⌜ r ≡ beginStep client job ⌝ }
+{
+    let answer = begin_answer(client, job);
+    if answer != 0 {
+        let turn = rests(client);
+        return Begun { answer, turn };
+    }
+    let turn = sends(with_job(client, job), Query::plain(Ask::Fetch));
+    Begun { answer, turn }
+}
+
+// 20 at a busy client; at an idle one nothing changes.
+pub fn give_up(client: Client) -> Turn
+    ensures { λ r. ⌜ r ≡ giveUp client ⌝ }
+{
+    let stage = client.stage;
+    if stage.is_busy() {
+        ends(client, Answer::UNKNOWN)
+    } else {
+        rests(client)
+    }
+}
+
+// The operation is forgotten, the life is the next, and its numbers are unused.
+pub fn restart(client: Client) -> Restarted
+    ensures { λ r. ⌜ r ≡ restartStep client ⌝ }
+{
+    if Client::LAST_LIFE <= client.life {
+        return Restarted {
+            answer: Answer::NUMBERS_SPENT,
+            client,
+        };
+    }
+    let reborn = Client::idle(client.life + 1, Request(0));
+    Restarted {
+        answer: 0,
+        client: reborn,
+    }
+}

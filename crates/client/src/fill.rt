@@ -1,0 +1,90 @@
+// Fill: write junk at the head, or carry on what it holds; then on to the tail.
+ghost use mathlib.Core.Path.{_≡_};
+ghost use Rattle.client.specs.Fill.{fills, looks, fillsOn, notFilled, onFilled, onLooked};
+use crate::message::Ask;
+use crate::message::Page;
+use crate::message::Query;
+use crate::message::Reply;
+use crate::message::number_of;
+use crate::state::Client;
+use crate::state::Stage;
+use crate::turn::Turn;
+use crate::turn::ends;
+use crate::turn::otherwise;
+use crate::turn::sends;
+use crate::way::after_for;
+use crate::way::head_for;
+use num::answer::Answer;
+
+// Writes the page carried at a unit: junk, or what the head holds.
+pub(crate) fn fills(c: Client, unit: u8) -> Turn
+    ensures { λ r. ⌜ r ≡ fills c unit ⌝ }
+{
+    let held = c.layout;
+    let epoch = held.epoch;
+    let position = c.position;
+    let page = c.page;
+    sends(
+        c.in_stage(Stage::Filling(unit)),
+        Query::bearing(Ask::Write(unit, epoch, position), page),
+    )
+}
+
+// Reads the head.
+pub(crate) fn looks(c: Client, unit: u8) -> Turn
+    ensures { λ r. ⌜ r ≡ looks c unit ⌝ }
+{
+    let held = c.layout;
+    let epoch = held.epoch;
+    let position = c.position;
+    sends(
+        c.in_stage(Stage::Looking(unit)),
+        Query::plain(Ask::Read(unit, epoch, position)),
+    )
+}
+
+// On to the tail.
+pub(crate) fn fills_on(c: Client, unit: u8) -> Turn
+    ensures { λ r. ⌜ r ≡ fillsOn c unit ⌝ }
+{
+    let next = after_for(c, unit);
+    if next == 0 {
+        ends(c, Answer::FINE)
+    } else {
+        fills(c, next)
+    }
+}
+
+// On 6 the head is read; 6 at a later unit counts as fine.
+pub(crate) fn not_filled(c: Client, unit: u8, number: u8) -> Turn
+    ensures { λ r. ⌜ r ≡ notFilled c unit number ⌝ }
+{
+    let head = head_for(c);
+    if number == Answer::WRITTEN {
+        if unit == head {
+            return looks(c, unit);
+        }
+        return fills_on(c, unit);
+    }
+    otherwise(c, number)
+}
+
+// The answer of a unit that was written to.
+pub(crate) fn on_filled(c: Client, unit: u8, reply: Reply) -> Turn
+    ensures { λ r. ⌜ r ≡ onFilled c unit reply ⌝ }
+{
+    let Reply::Fine = reply else {
+        return not_filled(c, unit, number_of(reply));
+    };
+    fills_on(c, unit)
+}
+
+// What the head holds is carried instead of junk.
+pub(crate) fn on_looked(c: Client, unit: u8, reply: Reply, page: Page) -> Turn
+    ensures { λ r. ⌜ r ≡ onLooked c unit reply page ⌝ }
+{
+    let Reply::Shown = reply else {
+        return otherwise(c, number_of(reply));
+    };
+    fills_on(c.carrying(page), unit)
+}

@@ -1,0 +1,124 @@
+// What an operation asks for, as it is when it begins.
+ghost use mathlib.Core.Path.{_≡_};
+ghost use Prim.Native.Nat.{_≤_};
+ghost use lib.ListN.{length, take};
+ghost use Rattle.layout.specs.Value.{padded};
+ghost use Rattle.client.specs.Job.{past, tooLong, positionFor, pageFor, changeFor, dataPage, jobAnswer};
+use crate::message::Page;
+use crate::state::Change;
+use crate::state::Job;
+use crate::state::Work;
+use num::answer::Answer;
+use num::answer::pick;
+use num::bytes::size;
+use num::count::Position;
+
+// A position of 2^40 or more; a prune above it.
+pub(crate) fn is_past(work: Work) -> bool
+    ensures { λ r. ⌜ r ≡ past work ⌝ }
+{
+    match work {
+        Work::Append => false,
+        Work::Read(p) => Position::LIMIT <= p.0,
+        Work::Fill(p) => Position::LIMIT <= p.0,
+        Work::Trim(p) => Position::LIMIT <= p.0,
+        Work::Prune(p) => Position::LIMIT < p.0,
+        Work::Reorganise => false,
+    }
+}
+
+// Data longer than a page.
+pub(crate) fn is_too_long(work: Work, len: u8) -> bool
+    ensures { λ r. ⌜ r ≡ tooLong work len ⌝ }
+{
+    match work {
+        Work::Append => Page::BYTES < len,
+        Work::Read(_) => false,
+        Work::Fill(_) => false,
+        Work::Trim(_) => false,
+        Work::Prune(_) => false,
+        Work::Reorganise => false,
+    }
+}
+
+// 2 or 3 where the operation asks for what no unit has, and 0 otherwise.
+pub fn job_answer(job: Job) -> u8
+    ensures { λ r. ⌜ r ≡ jobAnswer job ⌝ }
+{
+    let work = job.work;
+    let past = is_past(work);
+    let long = is_too_long(work, job.len);
+    pick(past, Answer::POSITION, pick(long, Answer::PAGE, 0))
+}
+
+// The position an operation is about.
+pub(crate) fn position_for(work: Work) -> Position
+    ensures { λ r. ⌜ r ≡ positionFor work ⌝ }
+{
+    match work {
+        Work::Append => Position(0),
+        Work::Read(p) => p,
+        Work::Fill(p) => p,
+        Work::Trim(p) => p,
+        Work::Prune(p) => p,
+        Work::Reorganise => Position(0),
+    }
+}
+
+// The first `count` bytes, and zeros behind them.
+fn kept(bytes: [u8; 32], count: usize) -> [u8; 32]
+    requires { ⌜ count ≤ 32 ⌝ }
+    ensures { λ r. ⌜ r ≡ padded 32 0 (take count bytes) ⌝ }
+{
+    let mut out = [0u8; 32];
+    let mut i = 0;
+    while i < count {
+        out[i] = bytes[i];
+        i += 1;
+    }
+    out
+}
+
+// The data page of an append.
+pub(crate) fn data_page(len: u8, bytes: [u8; 32]) -> Page
+    ensures { λ r. ⌜ r ≡ dataPage len bytes ⌝ }
+{
+    let n = size(len);
+    let mut held = bytes;
+    if len <= Page::BYTES {
+        held = kept(bytes, n);
+    }
+    Page {
+        kind: Page::DATA,
+        len,
+        bytes: held,
+    }
+}
+
+// The page an operation carries at first.
+pub(crate) fn page_for(work: Work, len: u8, bytes: [u8; 32]) -> Page
+    ensures { λ r. ⌜ r ≡ pageFor work len bytes ⌝ }
+{
+    match work {
+        Work::Append => data_page(len, bytes),
+        Work::Read(_) => Page::blank(),
+        Work::Fill(_) => Page::junk(),
+        Work::Trim(_) => Page::blank(),
+        Work::Prune(_) => Page::blank(),
+        Work::Reorganise => Page::blank(),
+    }
+}
+
+// The change, of a reorganise alone.
+pub(crate) fn change_for(work: Work, change: Change) -> Change
+    ensures { λ r. ⌜ r ≡ changeFor work change ⌝ }
+{
+    match work {
+        Work::Append => Change::blank(),
+        Work::Read(_) => Change::blank(),
+        Work::Fill(_) => Change::blank(),
+        Work::Trim(_) => Change::blank(),
+        Work::Prune(_) => Change::blank(),
+        Work::Reorganise => change,
+    }
+}

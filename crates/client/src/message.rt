@@ -1,0 +1,156 @@
+// What a client sends and what is handed back to it. An enum holds no array, so a page and a layout stand beside it.
+ghost use mathlib.Core.Path.{_≡_};
+ghost use Rattle.client.specs.Message.{noPage, noQuery, noResponse, junk, numberOf, plain, bearing, offering};
+use layout::value::Layout;
+use num::count::Epoch;
+use num::count::Position;
+use num::count::Request;
+
+// Data or junk: `len` bytes, and blank past them.
+pub struct Page {
+    pub kind: u8,
+    pub len: u8,
+    pub bytes: [u8; 32],
+}
+
+// What is asked, and of which unit (the first number of those that go to one).
+pub enum Ask {
+    Fetch,
+    Token(Epoch),
+    Write(u8, Epoch, Position),
+    Read(u8, Epoch, Position),
+    Trim(u8, Epoch, Position),
+    Prune(u8, Epoch, Position),
+    Seal(u8, Epoch),
+    Offer,
+    Start(Epoch, Position),
+}
+
+// A request: the page of a write and the layout of an offer are blank elsewhere.
+pub struct Query {
+    pub ask: Ask,
+    pub page: Page,
+    pub layout: Layout,
+}
+
+// What was answered: a layout is held, a token given, the work done, a page shown, an edge told, or a number.
+pub enum Reply {
+    Held,
+    Given(Position),
+    Fine,
+    Shown,
+    Edge(Position),
+    Refused(u8),
+}
+
+// An answer: the page shown and the layout held are blank elsewhere.
+pub struct Response {
+    pub reply: Reply,
+    pub page: Page,
+    pub layout: Layout,
+}
+
+// A request bears client, life and number, and so does its answer.
+pub struct Stamp {
+    pub client: u8,
+    pub life: u16,
+    pub number: Request,
+}
+
+impl Page {
+    // Bytes that a data page may hold.
+    pub const BYTES: u8 = 32;
+
+    pub const DATA: u8 = 1;
+
+    pub const JUNK: u8 = 2;
+
+    // No page.
+    pub fn blank() -> Page
+        ensures { λ r. ⌜ r ≡ noPage ⌝ }
+    {
+        Page {
+            kind: 0,
+            len: 0,
+            bytes: [0u8; 32],
+        }
+    }
+
+    // What a fill writes where nothing stands.
+    pub fn junk() -> Page
+        ensures { λ r. ⌜ r ≡ junk ⌝ }
+    {
+        Page {
+            kind: Page::JUNK,
+            len: 0,
+            bytes: [0u8; 32],
+        }
+    }
+}
+
+impl Query {
+    // What stands where nothing is sent.
+    pub fn blank() -> Query
+        ensures { λ r. ⌜ r ≡ noQuery ⌝ }
+    {
+        Query::plain(Ask::Fetch)
+    }
+
+    // A request with no page and no layout.
+    pub(crate) fn plain(ask: Ask) -> Query
+        ensures { λ r. ⌜ r ≡ plain ask ⌝ }
+    {
+        let page = Page::blank();
+        let layout = Layout::blank();
+        Query { ask, page, layout }
+    }
+
+    // A request that bears a page.
+    pub(crate) fn bearing(ask: Ask, page: Page) -> Query
+        ensures { λ r. ⌜ r ≡ bearing ask page ⌝ }
+    {
+        let layout = Layout::blank();
+        Query { ask, page, layout }
+    }
+
+    // The offer of a layout.
+    pub(crate) fn offering(layout: Layout) -> Query
+        ensures { λ r. ⌜ r ≡ offering layout ⌝ }
+    {
+        let page = Page::blank();
+        Query {
+            ask: Ask::Offer,
+            page,
+            layout,
+        }
+    }
+}
+
+impl Response {
+    // What stands where nothing is answered: it answers no request.
+    pub fn blank() -> Response
+        ensures { λ r. ⌜ r ≡ noResponse ⌝ }
+    {
+        let page = Page::blank();
+        let layout = Layout::blank();
+        Response {
+            reply: Reply::Refused(0),
+            page,
+            layout,
+        }
+    }
+}
+
+// The paper's number of an answer: 0 for each that is no refusal.
+pub fn number_of(reply: Reply) -> u8
+    ensures { λ r. ⌜ r ≡ numberOf reply ⌝ }
+{
+    match reply {
+        Reply::Held => 0,
+        Reply::Given(_) => 0,
+        Reply::Fine => 0,
+        Reply::Shown => 0,
+        Reply::Edge(_) => 0,
+        Reply::Refused(n) => n,
+    }
+}

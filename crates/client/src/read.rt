@@ -1,0 +1,38 @@
+// Read: ask the tail.
+ghost use mathlib.Core.Path.{_≡_};
+ghost use Rattle.client.specs.Read.{reads, onRead};
+use crate::message::Ask;
+use crate::message::Page;
+use crate::message::Query;
+use crate::message::Reply;
+use crate::message::number_of;
+use crate::state::Client;
+use crate::state::Stage;
+use crate::turn::Turn;
+use crate::turn::otherwise;
+use crate::turn::over;
+use crate::turn::sends;
+use num::answer::Answer;
+
+// Asks a unit.
+pub(crate) fn reads(c: Client, unit: u8) -> Turn
+    ensures { λ r. ⌜ r ≡ reads c unit ⌝ }
+{
+    let held = c.layout;
+    let epoch = held.epoch;
+    let position = c.position;
+    sends(
+        c.in_stage(Stage::Reading(unit)),
+        Query::plain(Ask::Read(unit, epoch, position)),
+    )
+}
+
+// The tail's answer; the outcome bears the epoch.
+pub(crate) fn on_read(c: Client, reply: Reply, page: Page) -> Turn
+    ensures { λ r. ⌜ r ≡ onRead c reply page ⌝ }
+{
+    let Reply::Shown = reply else {
+        return otherwise(c, number_of(reply));
+    };
+    over(c, Answer::FINE, page)
+}

@@ -1,0 +1,238 @@
+// A client between two steps. What an operation does not use is blank.
+ghost use mathlib.Core.Path.{_≡_};
+ghost use Rattle.client.specs.Client.{jobOf, appendOf, reorganiseOf, fresh, idle, noChange, busy, inStage, atPosition, carrying, holding, planning};
+use crate::message::Page;
+use layout::plan::Wish;
+use layout::value::Chain;
+use layout::value::Layout;
+use num::count::Epoch;
+use num::count::Position;
+use num::count::Request;
+
+// What is asked of a client.
+pub enum Work {
+    Append,
+    Read(Position),
+    Fill(Position),
+    Trim(Position),
+    Prune(Position),
+    Reorganise,
+}
+
+// What a reorganise changes: units to drop, the first `count`, and new sets if wanted.
+pub struct Change {
+    pub count: u8,
+    pub drops: [u8; 8],
+    pub wish: Wish,
+}
+
+// An operation as it is asked for: an append brings its data, a reorganise its change.
+pub struct Job {
+    pub work: Work,
+    pub len: u8,
+    pub bytes: [u8; 32],
+    pub change: Change,
+}
+
+// What the outstanding request is, with the unit it went to, the tokens taken so far, the largest edge so far,
+// and where the sequencer is to start.
+pub enum Stage {
+    Idle,
+    Fetching,
+    Drawing(u8),
+    Writing(u8, u8),
+    Reading(u8),
+    Filling(u8),
+    Looking(u8),
+    Trimming(u8),
+    Pruning(u8),
+    Sealing(u8, Position),
+    Offering(Position),
+    Starting,
+}
+
+// `used`: how many request numbers of this life are used, which is the last one; `begun`: how many were when the operation began.
+// `page` is the page carried, `position` the position under way, `layout` the one fetched, `plan` the one to be offered.
+pub struct Client {
+    pub life: u16,
+    pub used: Request,
+    pub begun: Request,
+    pub stage: Stage,
+    pub work: Work,
+    pub change: Change,
+    pub position: Position,
+    pub page: Page,
+    pub layout: Layout,
+    pub plan: Layout,
+}
+
+impl Change {
+    pub const DROPS: usize = 8;
+
+    // No change at all.
+    pub fn blank() -> Change
+        ensures { λ r. ⌜ r ≡ noChange ⌝ }
+    {
+        let wish = Wish {
+            count: 0,
+            sets: [Chain {
+                count: 0,
+                units: [0u8; 4],
+            }; 16],
+        };
+        Change {
+            count: 0,
+            drops: [0u8; 8],
+            wish,
+        }
+    }
+}
+
+impl Job {
+    // An operation that brings neither data nor a change.
+    pub fn of(work: Work) -> Job
+        ensures { λ r. ⌜ r ≡ jobOf work ⌝ }
+    {
+        let change = Change::blank();
+        Job {
+            work,
+            len: 0,
+            bytes: [0u8; 32],
+            change,
+        }
+    }
+
+    pub fn append(len: u8, bytes: [u8; 32]) -> Job
+        ensures { λ r. ⌜ r ≡ appendOf len bytes ⌝ }
+    {
+        let change = Change::blank();
+        Job {
+            work: Work::Append,
+            len,
+            bytes,
+            change,
+        }
+    }
+
+    pub fn reorganise(change: Change) -> Job
+        ensures { λ r. ⌜ r ≡ reorganiseOf change ⌝ }
+    {
+        Job {
+            work: Work::Reorganise,
+            len: 0,
+            bytes: [0u8; 32],
+            change,
+        }
+    }
+}
+
+impl Stage {
+    // Has the client an operation?
+    pub fn is_busy(self) -> bool
+        ensures { λ r. ⌜ r ≡ busy self ⌝ }
+    {
+        match self {
+            Stage::Idle => false,
+            Stage::Fetching => true,
+            Stage::Drawing(_) => true,
+            Stage::Writing(_, _) => true,
+            Stage::Reading(_) => true,
+            Stage::Filling(_) => true,
+            Stage::Looking(_) => true,
+            Stage::Trimming(_) => true,
+            Stage::Pruning(_) => true,
+            Stage::Sealing(_, _) => true,
+            Stage::Offering(_) => true,
+            Stage::Starting => true,
+        }
+    }
+}
+
+impl Client {
+    // Tokens that one append may take.
+    pub const TOKENS: u8 = 8;
+
+    pub const LAST_LIFE: u16 = 65_535;
+
+    // With no operation.
+    pub(crate) fn idle(life: u16, used: Request) -> Client
+        ensures { λ r. ⌜ r ≡ idle life used ⌝ }
+    {
+        let change = Change::blank();
+        let page = Page::blank();
+        let layout = Layout::blank();
+        let plan = layout;
+        Client {
+            life,
+            used,
+            begun: Request(0),
+            stage: Stage::Idle,
+            work: Work::Append,
+            change,
+            position: Position(0),
+            page,
+            layout,
+            plan,
+        }
+    }
+
+    // In life 1 with no number used.
+    pub fn fresh() -> Client
+        ensures { λ r. ⌜ r ≡ fresh ⌝ }
+    {
+        Client::idle(1, Request(0))
+    }
+
+    pub(crate) fn in_stage(self, stage: Stage) -> Client
+        ensures { λ r. ⌜ r ≡ inStage self stage ⌝ }
+    {
+        let used = self.used;
+        let begun = self.begun;
+        let work = self.work;
+        let change = self.change;
+        let position = self.position;
+        let page = self.page;
+        let layout = self.layout;
+        let plan = self.plan;
+        Client {
+            life: self.life,
+            used,
+            begun,
+            stage,
+            work,
+            change,
+            position,
+            page,
+            layout,
+            plan,
+        }
+    }
+
+    pub(crate) fn at_position(mut self, position: Position) -> Client
+        ensures { λ r. ⌜ r ≡ atPosition self position ⌝ }
+    {
+        self.position = position;
+        self
+    }
+
+    pub(crate) fn carrying(mut self, page: Page) -> Client
+        ensures { λ r. ⌜ r ≡ carrying self page ⌝ }
+    {
+        self.page = page;
+        self
+    }
+
+    pub(crate) fn holding(mut self, layout: Layout) -> Client
+        ensures { λ r. ⌜ r ≡ holding self layout ⌝ }
+    {
+        self.layout = layout;
+        self
+    }
+
+    pub(crate) fn planning(mut self, plan: Layout) -> Client
+        ensures { λ r. ⌜ r ≡ planning self plan ⌝ }
+    {
+        self.plan = plan;
+        self
+    }
+}

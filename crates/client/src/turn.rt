@@ -1,0 +1,135 @@
+// What comes of a step at a client: it rests, a request is sent, or its operation ends.
+ghost use mathlib.Core.Path.{_≡_};
+ghost use Rattle.client.specs.Turn.{noOutcome, outcomeOf, rests, over, ends, numbered, sends, otherwise};
+use crate::message::Page;
+use crate::message::Query;
+use crate::state::Client;
+use num::answer::Answer;
+use num::count::Epoch;
+use num::count::Position;
+use num::count::Request;
+
+pub enum Act {
+    Rests,
+    Sends(Request),
+    Ends,
+}
+
+// How an operation ended: its number, the position under way, the epoch of the layout it fetched, and the page that a read was shown.
+pub struct Outcome {
+    pub number: u8,
+    pub position: Position,
+    pub epoch: Epoch,
+    pub page: Page,
+}
+
+// The client afterwards; the request where one is sent, and the outcome where the operation ends.
+pub struct Turn {
+    pub client: Client,
+    pub act: Act,
+    pub query: Query,
+    pub outcome: Outcome,
+}
+
+impl Outcome {
+    pub fn blank() -> Outcome
+        ensures { λ r. ⌜ r ≡ noOutcome ⌝ }
+    {
+        let page = Page::blank();
+        Outcome {
+            number: 0,
+            position: Position(0),
+            epoch: Epoch(0),
+            page,
+        }
+    }
+
+    pub(crate) fn of(client: Client, number: u8, page: Page) -> Outcome
+        ensures { λ r. ⌜ r ≡ outcomeOf client number page ⌝ }
+    {
+        let position = client.position;
+        let layout = client.layout;
+        let epoch = layout.epoch;
+        Outcome {
+            number,
+            position,
+            epoch,
+            page,
+        }
+    }
+}
+
+// Nothing happens: the answer was to something else, or to nothing.
+pub(crate) fn rests(client: Client) -> Turn
+    ensures { λ r. ⌜ r ≡ rests client ⌝ }
+{
+    let query = Query::blank();
+    let outcome = Outcome::blank();
+    Turn {
+        client,
+        act: Act::Rests,
+        query,
+        outcome,
+    }
+}
+
+// The operation is over, with a number and a page.
+pub(crate) fn over(client: Client, number: u8, page: Page) -> Turn
+    ensures { λ r. ⌜ r ≡ over client number page ⌝ }
+{
+    let outcome = Outcome::of(client, number, page);
+    let used = client.used;
+    let idle = Client::idle(client.life, used);
+    let query = Query::blank();
+    Turn {
+        client: idle,
+        act: Act::Ends,
+        query,
+        outcome,
+    }
+}
+
+pub(crate) fn ends(client: Client, number: u8) -> Turn
+    ensures { λ r. ⌜ r ≡ ends client number ⌝ }
+{
+    over(client, number, Page::blank())
+}
+
+// The client with its numbers used up to this one.
+pub(crate) fn numbered(client: Client, number: Request) -> Client
+    ensures { λ r. ⌜ r ≡ numbered client number ⌝ }
+{
+    let mut c = client;
+    c.used = number;
+    c
+}
+
+// A request goes out under the next number; with none left the operation ends with 19.
+pub(crate) fn sends(client: Client, query: Query) -> Turn
+    ensures { λ r. ⌜ r ≡ sends client query ⌝ }
+{
+    let used = client.used;
+    if Request::LAST <= used.0 {
+        return ends(client, Answer::NUMBERS_SPENT);
+    }
+    let number = Request(used.0 + 1);
+    let sender = numbered(client, number);
+    let outcome = Outcome::blank();
+    Turn {
+        client: sender,
+        act: Act::Sends(number),
+        query,
+        outcome,
+    }
+}
+
+// Any other answer ends the operation with its number; one that has none never answers what was asked.
+pub(crate) fn otherwise(client: Client, number: u8) -> Turn
+    ensures { λ r. ⌜ r ≡ otherwise client number ⌝ }
+{
+    if number == 0 {
+        rests(client)
+    } else {
+        ends(client, number)
+    }
+}

@@ -1,0 +1,193 @@
+-- After any moves, the page of an append that is done is answerable again: demand 3's last sentence over runs of the yard.
+-- Rests on LastSentence and on demand 3 of reads under the layout in force.
+use mathlib.Core.Path.{_≡_, refl, sym, ap, subst, _∙_}
+use mathlib.Core.Bool.{true, false}
+use mathlib.Core.List.{List, [], _∷_}
+use Prim.Native.Nat.{ℕ, _<_}
+use lib.ListN.{length}
+use Rattle.num.specs.Limits.{limit}
+use Rattle.num.specs.declared.count.Position.{Position}
+use Rattle.layout.specs.declared.value.Layout.{Layout}
+use Rattle.layout.specs.Value.{blank}
+use Rattle.client.specs.declared.message.Ask.{Ask}
+use Rattle.client.specs.declared.message.Ask.the-variants as ask
+use Rattle.client.specs.Message.{noPage, plain}
+use Rattle.client.specs.declared.state.Work.the-variants.{Read}
+use Rattle.client.specs.declared.turn.Outcome.{Outcome}
+use Rattle.client.specs.Client.{busy, jobOf}
+use Rattle.yard.specs.World.{World, clientAt, letterAt}
+use Rattle.yard.specs.Serve.{serve}
+use Rattle.yard.specs.Steps.{Done, request, answerTo}
+use Rattle.vouch.specs.Words.{Page, Answer}
+use Rattle.vouch.specs.Runs.{Move, Moves, _≼_, result, world, Asked, AppendDone, Returns, ReadEnds, Reaches, InForce}
+use Rattle.vouch.specs.Runs.Moves.{_▸_}
+use Rattle.vouch.specs.Runs._≼_.{all-of, part-of}
+use Rattle.vouch.specs.Runs.Returns.{returns-page, returns-trimmed, returns-unwritten}
+use Rattle.vouch.specs.Demand.{CutAsked, Rightly, Demand3}
+use Rattle.vouch.specs.Demand.CutAsked.{by-trim, by-prune}
+use Rattle.vouch.specs.Demand.Rightly.{that-page, trim-asked}
+use Rattle.vouch.specs.LastSentence.{Goes, begin, deliver, exchanges, reorganising, newLayout, Conditions, Answering, _▸▸_, Again}
+use Rattle.vouch.specs.LastSentence.Goes.{ends, goes}
+use Rattle.vouch.specs.LastSentence.Answering.{page, trimmed, unwritten}
+use Rattle.vouch.proofs.Forward.{Sound, offered-good}
+use Rattle.vouch.proofs.Reread.{tail}
+use Rattle.vouch.proofs.LastSentence.{W, ready-again, read, epoch-is, tells, last-sentence}
+
+-- ---- more moves
+
+pub goes-world : (l : Layout) (ms : Moves) {list : List Move} {d : Done} {w : World} → world l ms ≡ w → Goes w list d → world l (ms ▸▸ list) ≡ d .world
+unfolding world _▸▸_
+goes-world l ms is (ends {m = m} a) = ap (λ z. result z m .world) is
+goes-world l ms is (goes {m = m} a b rest) = goes-world l (ms ▸ m) (ap (λ z. result z m .world) is) rest
+
+within-more : (list : List Move) {ms₁ ms : Moves} → ms₁ ≼ ms → ms₁ ≼ (ms ▸▸ list)
+unfolding _▸▸_
+within-more [] part = part
+within-more (m ∷ list) part = within-more list (part-of part)
+
+within-both : {ms₁ ms₂ ms₃ : Moves} → ms₁ ≼ ms₂ → ms₂ ≼ ms₃ → ms₁ ≼ ms₃
+within-both part all-of = part
+within-both part (part-of more) = part-of (within-both part more)
+
+asked-more : {l : Layout} {ms ms′ : Moves} {n : _} → ms ≼ ms′ → Asked l ms n → Asked l ms′ n
+asked-more part a = record {
+  before = a .before;
+  move = a .move;
+  within = within-both (a .within) part;
+  client = a .client;
+  begins = a .begins;
+  not-refused = a .not-refused;
+  wants = a .wants;
+}
+
+cut-more : {l : Layout} {ms ms′ : Moves} {p : ℕ} → ms ≼ ms′ → CutAsked l ms p → CutAsked l ms′ p
+cut-more part (by-trim a) = by-trim (asked-more part a)
+cut-more part (by-prune lt a) = by-prune lt (asked-more part a)
+
+rightly-more : {l : Layout} {ms ms′ : Moves} {p : ℕ} {X : Page} {r : Answer} → ms ≼ ms′ → Rightly l ms p X r → Rightly l ms′ p X r
+rightly-more part that-page = that-page
+rightly-more part (trim-asked c) = trim-asked (cut-more part c)
+
+-- ---- what an outcome returns
+
+record Says (o : Outcome) : Type 0 where
+  returned : Answer
+  returns : Returns o returned
+
+says : (o : Outcome) {n : ℕ} → o .number ≡ n → Answering n → Says o
+says o e page = record { returned = _; returns = returns-page e }
+says o e trimmed = record { returned = _; returns = returns-trimmed e }
+says o e unwritten = record { returned = _; returns = returns-unwritten e }
+
+-- ---- the read, among the moves
+
+module _ (l : Layout) (ms : Moves) (c : ℕ) (sound : Sound (world l ms)) (may : Conditions (world l ms) c) (p : Position) (below : p .0 < limit) where
+  abbrev w : World
+  w = world l ms
+
+  abbrev after-it : World
+  after-it = W w c sound may
+
+  abbrev ms₂ : Moves
+  ms₂ = ms ▸▸ reorganising w c
+
+  reached : world l ms₂ ≡ after-it
+  unfolding last-sentence
+  reached = goes-world l ms refl (last-sentence w c sound may p below .reorganise-goes)
+
+  abbrev b : Move
+  b = begin c (jobOf (Read p))
+
+  abbrev d : Move
+  d = deliver (length (after-it .letters))
+
+  -- before the request reaches the tail, and before the answer is taken
+  abbrev ms₁ : Moves
+  ms₁ = ms₂ ▸ b ▸ d ▸ d
+
+  abbrev ms₃ : Moves
+  ms₃ = ms₁ ▸ d
+
+  at₁ : world l ms₁ ≡ read w c sound may p below .asked
+  unfolding world
+  at₁ = ap (λ (z : World). result (result (result z b .world) d .world) d .world) reached ∙ read w c sound may p below .leads
+
+  at₃ : world l ms₃ ≡ result (read w c sound may p below .asked) d .world
+  unfolding world
+  at₃ = ap (λ (z : World). result z d .world) at₁
+
+  last-is : result (world l ms₃) d ≡ read w c sound may p below .done
+  last-is = ap (λ (z : World). result z d) at₃ ∙ read w c sound may p below .last-is
+
+  abbrev o : Outcome
+  o = read w c sound may p below .done .outcome
+
+  abbrev e : ℕ
+  e = newLayout w .epoch
+
+  reads-end : (s : Says o) → ReadEnds l ms₃ d (p .0) e (s .returned)
+  reads-end s = record {
+    client = c;
+    position = p;
+    ends = record {
+      is-client = may .is-client;
+      was-busy = ap (λ (z : World). busy (clientAt z c .stage)) at₃ ∙ read w c sound may p below .is-busy;
+      work-is = ap (λ (z : World). clientAt z c .work) at₃ ∙ read w c sound may p below .work-is;
+      who-is = ap (λ (x : Done). x .who) last-is ∙ read w c sound may p below .who;
+    };
+    position-is = refl;
+    epoch-is = ap (λ (x : Done). x .outcome .epoch .0) last-is ∙ tells w c sound may p below .epoch-is;
+    returns = subst (λ (x : Done). Returns (x .outcome) (s .returned)) (sym last-is) (s .returns);
+  }
+
+  abbrev tail-there : ℕ
+  tail-there = tail after-it c (ready-again w c sound may) p below (offered-good w c sound may)
+
+  abbrev ask-there : Ask
+  ask-there = ask.Read tail-there (after-it .held .epoch) p
+
+  reaches : Reaches l ms₁ d ms₃ d (p .0) e
+  reaches = record {
+    earlier = all-of;
+    request = request (read w c sound may p below .stamp-is) (plain ask-there);
+    delivers = record {
+      place = length (after-it .letters);
+      keep = false;
+      keepAnswer = true;
+      is-delivery = refl;
+      letter-is = ap (λ (z : World). letterAt z (length (after-it .letters))) at₁ ∙ read w c sound may p below .letter-is;
+      not-refused = ap (λ (z : World). result z d .answer) at₁ ∙ read w c sound may p below .brought;
+    };
+    unit = tail-there;
+    epoch = after-it .held .epoch;
+    position = p;
+    asks = refl;
+    epoch-is = epoch-is w c sound may p below;
+    position-is = refl;
+    takes = record {
+      place = length (after-it .letters);
+      keep = false;
+      keepAnswer = true;
+      is-delivery = refl;
+      letter-is =
+          ap (λ (z : World). letterAt z (length (after-it .letters))) at₃ ∙ (read w c sound may p below .answer-is
+          ∙ ap (λ (z : World). answerTo (read w c sound may p below .stamp-is) (serve z ask-there noPage blank .response)) (sym at₁));
+      not-refused = ap (λ (x : Done). x .answer) last-is ∙ read w c sound may p below .fine-done;
+    };
+  }
+
+  in-force : InForce l ms₁ e
+  in-force = ap (λ (z : World). z .held .epoch .0) at₁ ∙ (ap (λ (k : Layout). k .epoch .0) (read w c sound may p below .held-is) ∙ epoch-is w c sound may p below)
+
+  -- where demand 3 holds of the reads of these moves
+  pub again : {ms₀ : Moves} {m₀ : Move} {X : Page} → Demand3 l → AppendDone l ms₀ m₀ (p .0) X → (ms₀ ▸ m₀) ≼ ms → Again l ms c p X
+  unfolding last-sentence _▸▸_ exchanges
+  again demand append before =
+      let s = says o refl (tells w c sound may p below .answers) in
+      record {
+        answerable = last-sentence w c sound may p below;
+        returned = s .returned;
+        returns = s .returns;
+        rightly = rightly-more (part-of (part-of all-of))
+            (demand .after-done append (part-of (part-of (part-of (within-more (reorganising w c) before)))) reaches in-force (reads-end s));
+      }

@@ -1,0 +1,125 @@
+-- An operation begins and fetches the layout, with no other step between.
+-- Rests on Exchange and Offers.
+use mathlib.Core.Path.{_≡_, refl, ap, _∙_}
+use mathlib.Core.Bool.{true, false, not}
+use mathlib.Core.List.{List, _∷_}
+use Prim.Native.Nat.{ℕ, _≤_, _<_}
+use native.Mathlib.Omega.{arith}
+use borrow.Author.Tests.{lt-leb, eq-eqb}
+use lib.Dec.{eqb, leb}
+use lib.ListN.{length}
+use Rattle.layout.specs.Value.{goodValue}
+use Rattle.client.specs.declared.message.Reply.the-variants.{Held}
+use Rattle.client.specs.declared.message.Response.{Response}
+use Rattle.client.specs.declared.state.Client.{Client}
+use Rattle.client.specs.declared.state.Job.{Job}
+use Rattle.client.specs.declared.state.Stage.the-variants.{Idle}
+use Rattle.client.specs.declared.turn.Turn.{Turn}
+use Rattle.client.specs.Message.{noPage, plain}
+use Rattle.client.specs.declared.message.Ask.the-variants.{Fetch}
+use Rattle.client.specs.Client.{busy, holding, lastNumber}
+use Rattle.client.specs.Turn.{numbered, next, sent, sends}
+use Rattle.client.specs.Job.{past, tooLong}
+use Rattle.client.specs.Begin.{beginAnswer, withJob, beginTurn}
+use Rattle.client.specs.Take.{goesOn, holds, onFetched, answered}
+use Rattle.yard.specs.World.{World, isClient, clientAt}
+use Rattle.yard.specs.Serve.{serve}
+use Rattle.yard.specs.Steps.{Done, turned, beginNumber, begins, step}
+use Rattle.vouch.specs.Runs.{Move, result}
+use Rattle.vouch.specs.LastSentence.{Goes, begin, deliver}
+use Rattle.vouch.proofs.Offers.{fetch-does}
+use Rattle.vouch.proofs.Exchange.{pass, hold, not-so, goes-to, after, GoesOn, as-turn, waiting, request-served, answer-taken, Asked, exchange-on}
+
+-- client c may begin
+pub record Ready (w : World) (c : ℕ) : Type 0 where
+  pub is-client : isClient c ≡ true
+  pub clients : length (w .clients) ≡ 4
+  pub few : length (w .letters) ≤ 31
+  pub is-idle : clientAt w c .stage ≡ Idle
+  pub number-left : clientAt w c .used .0 < lastNumber
+
+-- what is asked is fit to be begun
+pub record Fit (j : Job) : Type 0 where
+  pub below : past (j .work) ≡ false
+  pub short : tooLong (j .work) (j .len) ≡ false
+
+module _ (w : World) (c : ℕ) (ready : Ready w c) (j : Job) (fit : Fit j) where
+  abbrev x : Client
+  x = clientAt w c
+
+  not-busy : busy (x .stage) ≡ false
+  not-busy = ap busy (ready .is-idle)
+
+  left : leb lastNumber (x .used .0) ≡ false
+  left = lt-leb lastNumber (x .used .0) (ready .number-left)
+
+  number-none : beginNumber w c j ≡ 0
+  unfolding beginNumber
+  number-none =
+      pass _ _ (not (isClient c)) (not-so (isClient c) (ready .is-client))
+      ∙ (pass _ _ (busy (x .stage)) not-busy
+      ∙ (pass _ _ (leb lastNumber (x .used .0)) left
+      ∙ (pass _ _ (leb 32 (length (w .letters))) (lt-leb 32 (length (w .letters)) (omega (arith, ready .few)))
+      ∙ (pass _ _ (past (j .work)) (fit .below)
+      ∙ pass _ _ (tooLong (j .work) (j .len)) (fit .short)))))
+
+  answer-none : beginAnswer x j ≡ 0
+  unfolding beginAnswer
+  answer-none =
+      pass _ _ (busy (x .stage)) not-busy
+      ∙ (pass _ _ (leb lastNumber (x .used .0)) left
+      ∙ (pass _ _ (past (j .work)) (fit .below)
+      ∙ pass _ _ (tooLong (j .work) (j .len)) (fit .short)))
+
+  -- the client with its operation
+  abbrev pub started : Client
+  started = withJob x j
+
+  turn-is : beginTurn x j ≡ sent started (plain Fetch)
+  unfolding beginTurn sends withJob
+  turn-is = hold _ _ (eqb (beginAnswer x j) 0) (eq-eqb (beginAnswer x j) 0 answer-none) ∙ pass _ _ (leb lastNumber (x .used .0)) left
+
+  begins-so : result w (begin c j) ≡ turned w (w .letters) c (sent started (plain Fetch))
+  unfolding step begins
+  begins-so =
+      hold _ _ (eqb (beginNumber w c j) 0) (eq-eqb (beginNumber w c j) 0 number-none)
+      ∙ ap (λ (t : Turn). turned w (w .letters) c t) turn-is
+
+  -- with the layout in hand
+  abbrev pub fetched : Client
+  fetched = holding (numbered started (next started)) (w .held)
+
+  module _ (good : goodValue (w .held) ≡ true) where
+    abbrev answer : Response
+    answer = record { reply = Held; page = noPage; layout = w .held }
+
+    asks : Asked w c (w .letters) (ready .is-client) (ready .clients) (ready .few) (w .held) (w .held) (w .units) (w .units) (w .sequencer) (w .sequencer) started (plain Fetch) answer
+    unfolding serve
+    asks = record {
+      there = refl;
+      serves = ap (λ (r : Response). record { response = r; world = waiting w c (w .letters) (w .held) (w .units) (w .sequencer) started (plain Fetch) }) (fetch-does (w .held) good);
+    }
+
+    takes-layout : answered (started .stage) (numbered started (next started)) answer ≡ goesOn (j .work) fetched
+    unfolding withJob answered onFetched holds numbered
+    takes-layout = hold _ _ (goodValue (w .held)) good
+
+    pub begin-fetch : {ms : List Move} {d : Done} → GoesOn w c (w .letters) (w .held) (w .units) (w .sequencer) (goesOn (j .work) fetched) ms d →
+        Goes w (begin c j ∷ deliver (length (w .letters)) ∷ deliver (length (w .letters)) ∷ ms) d
+    unfolding turned numbered
+    begin-fetch {ms} {d} on =
+        goes-to _ begins-so refl refl
+        (exchange-on w c (w .letters) (ready .is-client) (ready .clients) (ready .few) asks
+        (as-turn w c (w .letters) takes-layout on))
+
+    -- the yard then
+    pub fetch-leads : let k = length (w .letters) in
+        result (result (result w (begin c j) .world) (deliver k) .world) (deliver k) .world ≡ after w c (w .letters) (w .held) (w .units) (w .sequencer) (goesOn (j .work) fetched)
+    unfolding turned numbered
+    fetch-leads =
+        let k = length (w .letters) in
+        ap (λ (d : Done). result (result (d .world) (deliver k) .world) (deliver k) .world) begins-so
+        ∙ (ap (λ (d : Done). result (d .world) (deliver k) .world)
+        (request-served w c (w .letters) (ready .is-client) (ready .clients) (ready .few) (w .held) (w .held) (w .units) (w .units) (w .sequencer) (w .sequencer) started (plain Fetch) answer (asks .there) (asks .serves))
+        ∙ (ap (λ (d : Done). d .world) (answer-taken w c (w .letters) (ready .is-client) (ready .clients) (ready .few) (w .held) (w .units) (w .sequencer) started answer)
+        ∙ ap (λ (t : Turn). after w c (w .letters) (w .held) (w .units) (w .sequencer) t) takes-layout))

@@ -1,0 +1,74 @@
+-- Demand 3's last sentence of every run of the yard, with no hypothesis but its conditions.
+-- Rests on Again, Soundness and Demand.
+use mathlib.Core.Path.{_≡_, refl, sym, ap, subst, _∙_}
+use mathlib.Core.Bool.{true}
+use Prim.Native.Nat.{ℕ, _≤_, _<_}
+use native.Mathlib.Omega.{arith}
+use Rattle.num.specs.Limits.{limit}
+use Rattle.num.specs.declared.count.Position.{Position}
+use Rattle.layout.specs.declared.value.Layout.{Layout}
+use Rattle.layout.specs.Lay.{Lay}
+use Rattle.layout.specs.Value.{layOf, goodValue}
+use Rattle.layout.specs.Places.{setAt, headOf}
+use Rattle.layout.proofs.Values.{value-of-good}
+use Rattle.unit.specs.Shape.{small}
+use Rattle.unit.specs.State.{State}
+use Rattle.unit.proofs.Shown.{shown, shown-limit}
+use Rattle.yard.specs.World.{World, unitAt}
+use Rattle.vouch.specs.Words.{UnitNo, Pos, Page}
+use Rattle.vouch.specs.Maps.{Map, Serves}
+use Rattle.vouch.specs.History.{History, MarkedBy, held}
+use Rattle.vouch.specs.History.Mark.{page}
+use Rattle.vouch.specs.Events.{Run}
+use Rattle.vouch.specs.Safety.{Answers, Settled}
+use Rattle.vouch.specs.Layouts.{mapOf}
+use Rattle.vouch.specs.Runs.{Move, Moves, _≼_, result, world, AppendDone}
+use Rattle.vouch.specs.Runs.Moves.{_▸_}
+use Rattle.vouch.specs.LastSentence.{Conditions, Again}
+use Rattle.vouch.proofs.Epochs.{laid-by, held-laid}
+use Rattle.vouch.proofs.Settled.{settled-later}
+use Rattle.vouch.proofs.GoodMap.{good-map, unit-within}
+use Rattle.vouch.proofs.Walks.{head-serves}
+use Rattle.vouch.proofs.UnitIs.{UnitIs}
+use Rattle.vouch.proofs.Untouched.{not-marked}
+use Rattle.vouch.proofs.Writing.{empty-answers}
+use Rattle.vouch.proofs.Meaning.{AppendedOk}
+use Rattle.vouch.proofs.Together.{Good, client-range}
+use Rattle.vouch.proofs.Coming.{come, outcome-of}
+use Rattle.vouch.proofs.Demand.{demand-3}
+use Rattle.vouch.proofs.Forward.{Sound}
+use Rattle.vouch.proofs.Again.{again}
+use Rattle.vouch.proofs.Soundness.{sound-of, stopped-long}
+
+-- a unit that a page is marked at has it below 2^40
+marked-below : {h : History} {u : UnitNo} {M : State} {p : Pos} {X : Page} {e : ℕ} → UnitIs h u M → MarkedBy h u p (page X) e → p < limit
+marked-below {h} {u} {M} {p} is mark =
+    shown-limit small M p (is .is-valid) (λ z. not-marked (subst (λ r. Answers h u p r) (empty-answers (shown M p) z) (is .shown-is p)) _ _ (mark .marked))
+
+settled-below : {h : History} (w : World) {L : Map} {p : Pos} {X : Page} → Run h → held h ≡ mapOf (layOf (w .held)) → goodValue (w .held) ≡ true →
+    ((u : UnitNo) → 1 ≤ u → u ≤ 8 → UnitIs h u (unitAt w u)) → Settled h L p (page X) → p < limit
+settled-below {h} w {L} {p} {X} run holds good units settled =
+    let lay-good = value-of-good (w .held) good .0 in
+    let u = headOf (setAt (layOf (w .held)) p) in
+    let serves = head-serves (layOf (w .held)) lay-good p in
+    let range = unit-within (layOf (w .held)) (good-map (layOf (w .held)) lay-good .set-within p u serves) in
+    let now = settled-later run (held-laid run) (laid-by run (settled .laid)) settled in
+    marked-below (units u (range .0) (range .1)) (now .all u (subst (λ (m : Map). Serves m p u) (sym holds) serves))
+
+module _ (l : Layout) (good : goodValue l ≡ true) (first : l .epoch .0 ≡ 1) where
+  pub sound-at : (ms : Moves) → Sound (world l ms)
+  sound-at ms =
+      let g = come l good first ms .good in
+      sound-of (g .machines .run) (g .machines .held-is) (g .machines .held-good) (g .machines .sequencer-low) (g .machines .units-long) (g .machines .units) (g .clients-long) (stopped-long l ms)
+
+  appended-below : {ms : Moves} {m : Move} {p : Pos} {X : Page} → AppendDone l ms m p X → p < limit
+  appended-below {ms} {m} {p} {X} done =
+      let range = client-range (done .client) (done .ends .is-client) in
+      let ok = outcome-of l good first ms m (done .client) (range .0) (range .1) (done .ends .who-is) .append-done (done .ends .work-is) (done .number-is) in
+      let g = come l good first (ms ▸ m) .good in
+      let lt = settled-below (world l (ms ▸ m)) (g .machines .run) (g .machines .held-is) (g .machines .held-good) (g .machines .units) (ok .settled) in
+      subst (λ q. q < limit) (done .position-is) lt
+
+  -- "If each set still has a working unit, one undisturbed reorganise that drops the stopped ones makes the page answerable again."
+  pub answerable-again : {ms₀ ms : Moves} {m₀ : Move} {c : ℕ} {p : Position} {X : Page} → AppendDone l ms₀ m₀ (p .0) X → (ms₀ ▸ m₀) ≼ ms → Conditions (world l ms) c → Again l ms c p X
+  answerable-again {ms = ms} {c = c} {p} append before may = again l ms c (sound-at ms) may p (appended-below append) (demand-3 l good first) append before

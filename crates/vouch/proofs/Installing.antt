@@ -1,0 +1,183 @@
+-- The end of a reorganise with no other step between: offer and start, and it is done.
+-- Rests on Exchange and Forward.
+use mathlib.Core.Path.{_≡_, refl, ap, _∙_}
+use mathlib.Core.Bool.{cond}
+use mathlib.Core.List.{List, []}
+use Prim.Native.Nat.{ℕ, _+_, _≤_, _<_}
+use native.Mathlib.Omega.{arith}
+use lib.Dec.{eqb}
+use lib.ListN.{length}
+use Rattle.num.specs.Limits.{limit}
+use Rattle.num.specs.declared.count.Position.{Position}
+use Rattle.num.specs.declared.count.Request.{Request}
+use Rattle.layout.specs.declared.value.Layout.{Layout}
+use Rattle.layout.specs.declared.plan.Started.{Started}
+use Rattle.layout.specs.declared.holder.Offered.{Offered}
+use Rattle.layout.specs.Plan.{startedAt}
+use Rattle.unit.specs.State.{State}
+use Rattle.sequencer.specs.declared.Sequencer.{Sequencer}
+use Rattle.sequencer.specs.declared.Told.{Told}
+use Rattle.sequencer.specs.declared.Asked.the-variants as asked
+use Rattle.sequencer.specs.Rules.{after as sequencer-after}
+use Rattle.client.specs.declared.message.Ask.the-variants as ask
+use Rattle.client.specs.declared.message.Reply.the-variants.{Fine}
+use Rattle.client.specs.declared.state.Client.{Client}
+use Rattle.client.specs.declared.state.Stage.the-variants.{Offering, Starting}
+use Rattle.client.specs.declared.turn.Turn.{Turn}
+use Rattle.client.specs.Message.{noPage, plain, offering}
+use Rattle.client.specs.Client.{inStage, planning, idle, lastNumber}
+use Rattle.client.specs.Turn.{numbered, next, sends, over, outcomeOf}
+use Rattle.client.specs.Turn.{ends as endsWith}
+use Rattle.client.specs.Way.{startFor}
+use Rattle.client.specs.Reorganise.{offers, allSealed, starts, onOffered, onStarted}
+use Rattle.client.specs.Take.{answered}
+use Rattle.yard.specs.World.{World}
+use Rattle.yard.specs.Serve.{telling, bare, withSequencer, asking, offeringTo, serve}
+use Rattle.yard.specs.Steps.{Done}
+use Rattle.vouch.specs.LastSentence.{exchanges, Conditions}
+use Rattle.vouch.proofs.Exchange.{yard, after, waiting, GoesOn, as-turn, sends-on, Asked, exchange-on, exchange-ends}
+use Rattle.vouch.proofs.Forward.{Sound, offered, start-is, offer-is, offered-next, UnitsOn, start-told, start-after}
+
+module _ (w : World) (c : ℕ) (sound : Sound w) (may : Conditions w c) where
+  abbrev plan : Layout
+  plan = offered w c sound may
+
+  abbrev k : Layout
+  k = w .held
+
+  abbrev s : Sequencer
+  s = w .sequencer
+
+  -- ---- the end
+
+  pub record EndsWell (d : Done) : Type 0 where
+    pub who : d .who ≡ c
+    pub done : d .outcome .number ≡ 0
+    pub last-units : List State
+    pub last-sequencer : Sequencer
+    pub life : ℕ
+    pub used : Request
+    pub world-is : d .world ≡ yard w c (w .letters) plan last-units last-sequencer (idle life used) []
+    pub units-on : UnitsOn w last-units
+    pub left : used .0 + 2 ≤ lastNumber
+
+  -- the turn t leads there with n requests
+  pub record Comes (us : List State) (t : Turn) (n : ℕ) : Type 0 where
+    pub end : Done
+    pub run : GoesOn w c (w .letters) k us s t (exchanges n (length (w .letters))) end
+    pub well : EndsWell end
+
+  pub comes-as : {us : List State} {t t′ : Turn} {n : ℕ} → t ≡ t′ → Comes us t′ n → Comes us t n
+  comes-as same r = record { end = r .end; run = as-turn w c (w .letters) same (r .run); well = r .well }
+
+  -- ---- the start
+
+  module _ (us : List State) (y : Client) (p : Position) (on : UnitsOn w us) (plans : y .plan ≡ plan) (few : p .0 ≤ limit) (left : y .used .0 + 3 ≤ lastNumber) where
+    abbrev y₁ : Client
+    y₁ = inStage y Starting
+
+    abbrev started : Sequencer
+    started = record { epoch = plan .epoch; next = p }
+
+    starts-so : starts y p ≡ sends y₁ (plain (ask.Start (plan .epoch) p))
+    unfolding starts
+    starts-so = ap (λ (l : Layout). sends y₁ (plain (ask.Start (l .epoch) p))) plans
+
+    later : s .epoch .0 < plan .epoch .0
+    later = omega (arith, sound .sequencer-low, offered-next w c sound may)
+
+    start-asked : Asked w c (w .letters) (may .is-client) (sound .four-clients) (may .few-letters) plan plan us us s started y₁ (plain (ask.Start (plan .epoch) p)) (bare Fine)
+    unfolding serve asking
+    start-asked =
+        let W = waiting w c (w .letters) plan us s y₁ (plain (ask.Start (plan .epoch) p)) in
+        record {
+          there = refl;
+          serves =
+              ap (λ (t : Told). record { response = bare (telling t); world = withSequencer W (sequencer-after s (asked.Start (plan .epoch) p)) }) (start-told s (plan .epoch) p few later)
+              ∙ ap (λ (q : Sequencer). record { response = bare Fine; world = withSequencer W q }) (start-after s (plan .epoch) p few later);
+        }
+
+    start-taken : answered (y₁ .stage) (numbered y₁ (next y₁)) (bare Fine) ≡ over (numbered y₁ (next y₁)) 0 noPage
+    unfolding answered inStage onStarted endsWith
+    start-taken = refl
+
+    start-left : y₁ .used .0 < lastNumber
+    unfolding inStage
+    start-left = omega (arith, left)
+
+    abbrev last-turn : Turn
+    last-turn = over (numbered y₁ (next y₁)) 0 noPage
+
+    abbrev last-done : Done
+    last-done = record { answer = 0; who = c; outcome = last-turn .outcome; world = after w c (w .letters) plan us started last-turn }
+
+    start-goes : GoesOn w c (w .letters) plan us s (starts y p) (exchanges 1 (length (w .letters))) last-done
+    unfolding exchanges over
+    start-goes =
+        as-turn w c (w .letters) starts-so
+        (sends-on w c (w .letters) y₁ (plain (ask.Start (plan .epoch) p)) start-left
+        (exchange-ends w c (w .letters) (may .is-client) (sound .four-clients) (may .few-letters) start-asked last-turn start-taken))
+
+    start-well : EndsWell last-done
+    unfolding over outcomeOf inStage numbered
+    start-well = record {
+      who = refl;
+      done = refl;
+      last-units = us;
+      last-sequencer = started;
+      life = y .life;
+      used = next y;
+      world-is = refl;
+      units-on = on;
+      left = omega (arith, left);
+    }
+
+  -- ---- the offer
+
+  module _ (us : List State) (y : Client) (p : Position) (on : UnitsOn w us) (plans : y .plan ≡ plan) (few : p .0 ≤ limit) (left : y .used .0 + 4 ≤ lastNumber) where
+    abbrev y₂ : Client
+    y₂ = inStage (planning y plan) (Offering p)
+
+    offers-so : allSealed y p ≡ sends y₂ (offering plan)
+    unfolding allSealed startFor offers planning
+    offers-so =
+        ap (λ (o : Started). cond (eqb (o .answer) 0) (offers (planning y (o .layout)) (o .first)) (endsWith y (o .answer)))
+        (ap (λ (l : Layout). startedAt l (p .0)) plans ∙ start-is w c sound may (p .0))
+
+    offer-asked : Asked w c (w .letters) (may .is-client) (sound .four-clients) (may .few-letters) k plan us us s s y₂ (offering plan) (bare Fine)
+    unfolding serve offeringTo
+    offer-asked = record {
+      there = refl;
+      serves = ap (λ (o : Offered). offeringTo (waiting w c (w .letters) k us s y₂ (offering plan)) o) (offer-is w c sound may);
+    }
+
+    abbrev x₂ : Client
+    x₂ = numbered y₂ (next y₂)
+
+    offer-taken : answered (y₂ .stage) x₂ (bare Fine) ≡ starts x₂ p
+    unfolding answered inStage onOffered
+    offer-taken = refl
+
+    offer-left : y₂ .used .0 < lastNumber
+    unfolding inStage planning
+    offer-left = omega (arith, left)
+
+    start-left-after : x₂ .used .0 + 3 ≤ lastNumber
+    unfolding inStage planning numbered
+    start-left-after = omega (arith, left)
+
+    plan-after : x₂ .plan ≡ plan
+    unfolding inStage planning numbered
+    plan-after = refl
+
+    pub offer-comes : Comes us (allSealed y p) 2
+    unfolding exchanges
+    offer-comes = record {
+      end = last-done us x₂ p on plan-after few start-left-after;
+      run =
+          as-turn w c (w .letters) offers-so
+          (sends-on w c (w .letters) y₂ (offering plan) offer-left
+          (exchange-on w c (w .letters) (may .is-client) (sound .four-clients) (may .few-letters) offer-asked
+          (as-turn w c (w .letters) offer-taken (start-goes us x₂ p on plan-after few start-left-after))));
+      well = start-well us x₂ p on plan-after few start-left-after;
+    }

@@ -1,0 +1,144 @@
+-- No event undoes what a letter, a waiting client or an outcome vouches for.
+-- Rests on Meaning, Moments and Edges.
+use Prim.Native.Nat.{_≤_}
+use native.Mathlib.Omega.{arith}
+use Rattle.layout.specs.declared.value.Layout.{Layout}
+use Rattle.client.specs.declared.message.Page.{Page as PageValue}
+use Rattle.client.specs.declared.message.Ask.{Ask}
+use Rattle.client.specs.declared.message.Response.{Response}
+use Rattle.client.specs.declared.state.Work.{Work}
+use Rattle.client.specs.declared.state.Work.the-variants as work
+use Rattle.client.specs.declared.state.Stage.{Stage}
+use Rattle.client.specs.declared.state.Stage.the-variants.{Idle, Fetching, Drawing, Writing, Reading, Filling, Looking, Trimming, Pruning, Sealing, Offering, Starting}
+use Rattle.client.specs.declared.state.Client.{Client}
+use Rattle.num.specs.declared.count.Position.{Position}
+use Rattle.vouch.specs.Words.{UnitNo, Pos, Epoch, Answer}
+use Rattle.vouch.specs.History.{History, _⊑_, Mark, held}
+use Rattle.vouch.specs.History._⊑_.{here, later}
+use Rattle.vouch.specs.Events.{Run}
+use Rattle.vouch.specs.Events.Run.{run-step}
+use Rattle.vouch.proofs.Moments.{part-trans, noted-on, laid-on, by-on}
+use Rattle.vouch.proofs.Epochs.{held-rises}
+use Rattle.vouch.proofs.Edges.{seal-stays}
+use Rattle.vouch.proofs.Offers.{OfferOk}
+use Rattle.vouch.proofs.Meaning.{AskOk, Saw, Means, WorkOk, Fetched, Walking, StageOk}
+use Rattle.vouch.proofs.Meaning.AskOk.{fetch-ok, token-ok, write-ok, look-ok, trim-ok, prune-ok, seal-ok, offer-ok, start-ok}
+use Rattle.vouch.proofs.Meaning.Means.{means-held, means-token, means-wrote, means-written, means-no-write, means-shown, means-trimmed, means-unwritten, means-no-read, means-cut, means-no-cut, means-pruned, means-no-prune, means-edge, means-no-seal, means-installed, means-no-install, means-start}
+
+pub held-later : {h₁ h₂ : History} → Run h₂ → h₁ ⊑ h₂ → held h₁ .epoch ≤ held h₂ .epoch
+held-later run here = omega arith
+held-later (run-step {h} {ev} run may) (later part) = omega (arith, held-later run part, held-rises h ev may)
+
+module _ {h₁ h₂ : History} (run : Run h₂) (part : h₁ ⊑ h₂) where
+  pub saw-on : {u : UnitNo} {e : Epoch} {p : Pos} {r : Answer} → Saw h₁ u e p r → Saw h₂ u e p r
+  saw-on ok = record { moment = ok .moment; past = part-trans (ok .past) part; by = ok .by; epoch-is = ok .epoch-is; takes = ok .takes; answers = ok .answers }
+
+  pub offer-on : {l : Layout} → OfferOk h₁ l → OfferOk h₂ l
+  offer-on ok = record {
+    of = ok .of;
+    laid = laid-on part (ok .laid);
+    next = ok .next;
+    bound = ok .bound;
+    sealed-all = λ u has. seal-stays run part (ok .sealed-all u has);
+    start = ok .start;
+  }
+
+  -- ---- requests
+
+  pub ask-on : {a : Ask} {g : PageValue} {k : Layout} → AskOk h₁ a g k → AskOk h₂ a g k
+  ask-on fetch-ok = fetch-ok
+  ask-on token-ok = token-ok
+  ask-on (write-ok ok) = write-ok (record {
+    by = ok .by;
+    laid = laid-on part (ok .laid);
+    epoch-is = ok .epoch-is;
+    serves = ok .serves;
+    above = λ v before. by-on part (ok .above v before);
+    asked = noted-on part (ok .asked);
+  })
+  ask-on (look-ok ok) = look-ok (record { by = ok .by; laid = laid-on part (ok .laid); epoch-is = ok .epoch-is; serves = ok .serves })
+  ask-on (trim-ok ok) = trim-ok (record {
+    by = ok .by;
+    laid = laid-on part (ok .laid);
+    epoch-is = ok .epoch-is;
+    serves = ok .serves;
+    above = λ v before. by-on part (ok .above v before);
+    asked = noted-on part (ok .asked);
+  })
+  ask-on (prune-ok ok) = prune-ok (record {
+    by = ok .by;
+    laid = laid-on part (ok .laid);
+    epoch-is = ok .epoch-is;
+    has = ok .has;
+    above = λ v before p below. by-on part (ok .above v before p below);
+    asked = noted-on part (ok .asked);
+  })
+  ask-on (seal-ok {e = e} low small) = seal-ok {e = e} (omega (arith, held-later run part)) small
+  ask-on (offer-ok ok) = offer-ok (offer-on ok)
+  ask-on (start-ok {e = e} low) = start-ok {e = e} (omega (arith, held-later run part))
+
+  -- ---- answers
+
+  pub means-on : {a : Ask} {g : PageValue} {k : Layout} {r : Response} → Means h₁ a g k r → Means h₂ a g k r
+  means-on (means-held laid good) = means-held (laid-on part laid) good
+  means-on means-token = means-token
+  means-on (means-wrote mk) = means-wrote (by-on part mk)
+  means-on (means-written ok) =
+      means-written (record { by = ok .by; laid = laid-on part (ok .laid); epoch-is = ok .epoch-is; has-it = λ v before. by-on part (ok .has-it v before) })
+  means-on (means-no-write other) = means-no-write other
+  means-on (means-shown saw) = means-shown (saw-on saw)
+  means-on (means-trimmed saw) = means-trimmed (saw-on saw)
+  means-on (means-unwritten saw) = means-unwritten (saw-on saw)
+  means-on (means-no-read a b c) = means-no-read a b c
+  means-on (means-cut mk) = means-cut (by-on part mk)
+  means-on means-no-cut = means-no-cut
+  means-on (means-pruned mks) = means-pruned (λ p below. by-on part (mks p below))
+  means-on means-no-prune = means-no-prune
+  means-on (means-edge s) = means-edge (seal-stays run part s)
+  means-on means-no-seal = means-no-seal
+  means-on (means-installed {k = k} low) = means-installed {k = k} (omega (arith, held-later run part))
+  means-on means-no-install = means-no-install
+  means-on means-start = means-start
+
+  -- ---- clients
+
+  work-on : (w : Work) (p : Position) (g : PageValue) → WorkOk h₁ w p g → WorkOk h₂ w p g
+  work-on work.Append p g ok = noted-on part ok
+  work-on (work.Read q) p g ok = ok
+  work-on (work.Fill q) p g (asked, low) = (noted-on part asked, low)
+  work-on (work.Trim q) p g (asked, low) = (noted-on part asked, low)
+  work-on (work.Prune q) p g ok = noted-on part ok
+  work-on work.Reorganise p g ok = tt
+
+  pub fetched-on : {l : Layout} → Fetched h₁ l → Fetched h₂ l
+  fetched-on ok = record { laid = laid-on part (ok .laid); is-good = ok .is-good }
+
+  walking-on : {l : Layout} {p : Pos} {u : UnitNo} {m : Mark} → Walking h₁ l p u m → Walking h₂ l p u m
+  walking-on ok = record { fetched = fetched-on (ok .fetched); low = ok .low; serves = ok .serves; behind = λ v serves lt. by-on part (ok .behind v serves lt) }
+
+  pub stage-on : (c : Client) (st : Stage) → StageOk h₁ c st → StageOk h₂ c st
+  stage-on c Idle ok = tt
+  stage-on c Fetching ok = work-on (c .work) (c .position) (c .page) ok
+  stage-on c (Drawing n) ok = record { is-append = ok .is-append; fetched = fetched-on (ok .fetched); asked = noted-on part (ok .asked) }
+  stage-on c (Writing u n) ok = record { is-append = ok .is-append; walk = walking-on (ok .walk); asked = noted-on part (ok .asked) }
+  stage-on c (Reading u) ok = record { is-read = ok .is-read; fetched = fetched-on (ok .fetched); low = ok .low; is-tail = ok .is-tail }
+  stage-on c (Filling u) ok = record { filled = ok .filled; is-fill = ok .is-fill; walk = walking-on (ok .walk); asked = noted-on part (ok .asked) }
+  stage-on c (Looking u) ok = record { filled = ok .filled; is-fill = ok .is-fill; fetched = fetched-on (ok .fetched); low = ok .low; serves = ok .serves; is-head = ok .is-head }
+  stage-on c (Trimming u) ok = record { trimmed-at = ok .trimmed-at; is-trim = ok .is-trim; walk = walking-on (ok .walk); asked = noted-on part (ok .asked) }
+  stage-on c (Pruning u) ok = record {
+    pruned-to = ok .pruned-to;
+    is-prune = ok .is-prune;
+    fetched = fetched-on (ok .fetched);
+    has = ok .has;
+    behind = λ v has lt p below. by-on part (ok .behind v has lt p below);
+    asked = noted-on part (ok .asked);
+  }
+  stage-on c (Sealing u x) ok = record {
+    is-reorganise = ok .is-reorganise;
+    fetched = fetched-on (ok .fetched);
+    plan-fine = ok .plan-fine;
+    plan-is = ok .plan-is;
+    behind = λ v has lt. seal-stays run part (ok .behind v has lt);
+  }
+  stage-on c (Offering p) ok = record { is-reorganise = ok .is-reorganise; offer = offer-on (ok .offer) }
+  stage-on c Starting ok = record { is-reorganise = ok .is-reorganise; low = omega (arith, held-later run part, ok .low) }

@@ -1,0 +1,276 @@
+-- The machines of the yard and the history go together; and whatever a machine answers to a request that vouches for what it must, means what it says.
+-- Rests on Meaning, Lists and on the laws of units and of the holder.
+use mathlib.Core.Path.{_≡_, refl, sym, subst, _∙_}
+use mathlib.Core.Bool.{Bool, true, false, not, cond, _&&_}
+use Prim.Native.Nat.{ℕ, _-_, _≤_}
+use native.Mathlib.Omega.{arith}
+use lib.Dec.{eqb, leb}
+use lib.ListN.{length, length-set, getD}
+use borrow.Author.Tests.{leb-true}
+use Rattle.num.proofs.Tests.{false-true, and-both}
+use Rattle.num.specs.declared.count.Epoch.{Epoch as EpochValue}
+use Rattle.num.specs.declared.count.Position.{Position}
+use Rattle.layout.specs.declared.value.Layout.{Layout}
+use Rattle.layout.specs.Value.{layOf, goodValue}
+use Rattle.layout.specs.Holder.{offeredTo}
+use Rattle.unit.specs.Shape.{small}
+use Rattle.unit.specs.State.{State}
+use Rattle.unit.specs.Unit.{freshUnit, writeSays, writeUnit, trimSays, trimUnit, pruneSays, pruneUnit, sealUnit}
+use Rattle.sequencer.specs.declared.Sequencer.{Sequencer}
+use Rattle.sequencer.specs.declared.Asked.{Asked}
+use Rattle.sequencer.specs.declared.Asked.the-variants as asked
+use Rattle.sequencer.specs.Rules.{number, becomes, after}
+use Rattle.client.specs.declared.message.Page.{Page as PageValue}
+use Rattle.client.specs.declared.message.Ask.{Ask}
+use Rattle.client.specs.declared.message.Ask.the-variants.{Fetch, Token, Write, Read, Trim, Prune, Seal, Offer, Start}
+use Rattle.client.specs.declared.message.Reply.{Reply}
+use Rattle.client.specs.declared.message.Response.{Response}
+use Rattle.yard.specs.World.{World, unitAt, isUnit}
+use Rattle.yard.specs.Serve.{Served, saying, bare, kindOf, bytesOf, shown, edged, withUnit, withSequencer, withHeld, asking, offeringTo, serve, unserved}
+use Rattle.vouch.specs.Words.{UnitNo, Pos, Epoch, Page}
+use Rattle.vouch.specs.Maps.{Map}
+use Rattle.vouch.specs.History.{Note, History, _⊑_, Noted, Laid, held}
+use Rattle.vouch.specs.History.Event.{write, trim, prune, seal, install}
+use Rattle.vouch.specs.History.History.{_▹_}
+use Rattle.vouch.specs.History._⊑_.{here, later}
+use Rattle.vouch.specs.History.Noted.{noted-before}
+use Rattle.vouch.specs.Events.{Run}
+use Rattle.vouch.specs.Events.Run.{run-step}
+use Rattle.vouch.specs.Layouts.{mapOf}
+use Rattle.vouch.specs.Pages.{carried}
+use Rattle.vouch.proofs.Epochs.{held-laid, held-rises, laid-good}
+use Rattle.vouch.proofs.UnitIs.{UnitIs, WriteDone, TrimDone, PruneDone, SealDone, ReadDone}
+use Rattle.vouch.proofs.UnitIs.WriteDone.{did-write, was-written, no-write}
+use Rattle.vouch.proofs.UnitIs.TrimDone.{did-trim, no-trim}
+use Rattle.vouch.proofs.UnitIs.PruneDone.{did-prune, no-prune}
+use Rattle.vouch.proofs.UnitIs.SealDone.{did-seal, no-seal}
+use Rattle.vouch.proofs.UnitIs.ReadDone.{read-page, read-trimmed, read-unwritten, no-read}
+use Rattle.vouch.proofs.Untouched.{install-is, write-others, trim-others, prune-others, seal-others}
+use Rattle.vouch.proofs.Writing.{write-does, write-marks}
+use Rattle.vouch.proofs.Trimming.{trim-does, trim-marks, prune-does, prune-marks}
+use Rattle.vouch.proofs.Sealing.{seal-does}
+use Rattle.vouch.proofs.Reading.{read-does}
+use Rattle.vouch.proofs.Offers.{OfferDone, offer-does, fetch-does}
+use Rattle.vouch.proofs.Offers.OfferDone.{installed, not-installed}
+use Rattle.vouch.proofs.Walking.{epoch-of}
+use Rattle.vouch.proofs.Lists.{set-all}
+use Rattle.vouch.proofs.Meaning.{AskOk, Means}
+use Rattle.vouch.proofs.Meaning.AskOk.{fetch-ok, token-ok, write-ok, look-ok, trim-ok, prune-ok, seal-ok, offer-ok, start-ok}
+use Rattle.vouch.proofs.Meaning.Means.{means-held, means-token, means-wrote, means-written, means-no-write, means-shown, means-trimmed, means-unwritten, means-no-read, means-cut, means-no-cut, means-pruned, means-no-prune, means-edge, means-no-seal, means-installed, means-no-install, means-start}
+
+-- holder, sequencer and units are what the history made of them; stopped units too
+pub record Machines (h : History) (w : World) : Type 0 where
+  pub run : Run h
+  pub held-is : held h ≡ mapOf (layOf (w .held))
+  pub held-good : goodValue (w .held) ≡ true
+  pub sequencer-low : w .sequencer .epoch .0 ≤ held h .epoch
+  pub units-long : length (w .units) ≡ 8
+  pub units : (u : UnitNo) → 1 ≤ u → u ≤ 8 → UnitIs h u (unitAt w u)
+
+-- what came of a request that was served
+pub record ServedOk (h : History) (w : World) (a : Ask) (g : PageValue) (k : Layout) (v : Served) : Type 0 where
+  pub now : History
+  pub part : h ⊑ now
+  pub machines : Machines now (v .world)
+  pub means : Means now a g k (v .response)
+  pub clients-same : v .world .clients ≡ w .clients
+  pub quiet : (n : Note) → Noted now n → Noted h n
+
+-- ---- a unit that is asked is one of the eight
+
+pub unit-range : (u : ℕ) → isUnit u ≡ true → (1 ≤ u) × (u ≤ 8)
+unit-range u e = let both = and-both (leb 1 u) (leb u 8) e in (leb-true 1 u (both .0), leb-true u 8 (both .1))
+
+pub unit-runs : (a b : Bool) → not (a && b) ≡ false → a ≡ true
+unit-runs true b e = refl
+unit-runs false b e = absurd (false-true (sym e))
+
+-- ---- units
+
+with-unit : {h now : History} {w : World} {u : UnitNo} (M : State) → Machines h w → Run now → held now ≡ held h → 1 ≤ u → u ≤ 8 → UnitIs now u M →
+    ((v : UnitNo) → ¬ (v ≡ u) → UnitIs h v (unitAt w v) → UnitIs now v (unitAt w v)) → Machines now (withUnit w u M)
+with-unit {h} {now} {w} {u} M m run same low high is others = record {
+  run = run;
+  held-is = same ∙ m .held-is;
+  held-good = m .held-good;
+  sequencer-low = subst (λ (L : Map). w .sequencer .epoch .0 ≤ L .epoch) (sym same) (m .sequencer-low);
+  units-long = length-set (w .units) (u - 1) M ∙ m .units-long;
+  units = set-all (λ v N. UnitIs now v N) freshUnit (w .units) 8 u M (m .units-long) low high is (λ v from to ne. others v ne (m .units v from to));
+}
+
+-- only `ask` notes anything
+write-quiet : {h : History} {u : UnitNo} {L : Map} {p : Pos} {X : Page} (n : Note) → Noted (h ▹ write u L p X) n → Noted h n
+write-quiet n (noted-before noted) = noted
+
+trim-quiet : {h : History} {u : UnitNo} {L : Map} {p : Pos} (n : Note) → Noted (h ▹ trim u L p) n → Noted h n
+trim-quiet n (noted-before noted) = noted
+
+prune-quiet : {h : History} {u : UnitNo} {L : Map} {p : Pos} (n : Note) → Noted (h ▹ prune u L p) n → Noted h n
+prune-quiet n (noted-before noted) = noted
+
+seal-quiet : {h : History} {u : UnitNo} {e : Epoch} (n : Note) → Noted (h ▹ seal u e) n → Noted h n
+seal-quiet n (noted-before noted) = noted
+
+install-quiet : {h : History} {L : Map} (n : Note) → Noted (h ▹ install L) n → Noted h n
+install-quiet n (noted-before noted) = noted
+
+module _ {h : History} {w : World} (m : Machines h w) {u : UnitNo} (low : 1 ≤ u) (high : u ≤ 8) (g : PageValue) (k : Layout) where
+  -- nothing happened, whatever was answered
+  no-event : (a : Ask) (r : Reply) (M : State) → UnitIs h u M → Means h a g k (bare r) → ServedOk h w a g k (record { response = bare r; world = withUnit w u M })
+  no-event a r M is means = record {
+    now = h;
+    part = here;
+    machines = with-unit M m (m .run) refl low high is (λ v ne old. old);
+    means = means;
+    clients-same = refl;
+    quiet = λ n noted. noted;
+  }
+
+  wrote : (L : Map) (e : EpochValue) (p : Position) → L .epoch ≡ e .0 → Laid h L → (r : Reply) (M : State) → WriteDone h u L (p .0) (carried g) (e .0) M r →
+      ServedOk h w (Write u e p) g k (record { response = bare r; world = withUnit w u M })
+  unfolding held
+  wrote L e p at laid r M (did-write may is) = record {
+    now = h ▹ write u L (p .0) (carried g);
+    part = later here;
+    machines = with-unit M m (run-step (m .run) may) refl low high is (λ v ne old. write-others old ne);
+    means = means-wrote (write-marks at);
+    clients-same = refl;
+    quiet = write-quiet;
+  }
+  wrote L e p at laid r M (was-written has is) = no-event (Write u e p) r M is (means-written (record { by = L; laid = laid; epoch-is = at; has-it = has }))
+  wrote L e p at laid r M (no-write n0 n6 is) = no-event (Write u e p) r M is (means-no-write n6)
+
+  cut : (L : Map) (e : EpochValue) (p : Position) → L .epoch ≡ e .0 → (r : Reply) (M : State) → TrimDone h u L (p .0) M r →
+      ServedOk h w (Trim u e p) g k (record { response = bare r; world = withUnit w u M })
+  unfolding held
+  cut L e p at r M (did-trim may is) = record {
+    now = h ▹ trim u L (p .0);
+    part = later here;
+    machines = with-unit M m (run-step (m .run) may) refl low high is (λ v ne old. trim-others old ne);
+    means = means-cut (trim-marks at);
+    clients-same = refl;
+    quiet = trim-quiet;
+  }
+  cut L e p at r M (no-trim n0 is) = no-event (Trim u e p) r M is means-no-cut
+
+  pruned : (L : Map) (e : EpochValue) (q : Position) → L .epoch ≡ e .0 → (r : Reply) (M : State) → PruneDone h u L (q .0) M r →
+      ServedOk h w (Prune u e q) g k (record { response = bare r; world = withUnit w u M })
+  unfolding held
+  pruned L e q at r M (did-prune may is) = record {
+    now = h ▹ prune u L (q .0);
+    part = later here;
+    machines = with-unit M m (run-step (m .run) may) refl low high is (λ v ne old. prune-others old ne);
+    means = means-pruned (λ p below. prune-marks at below);
+    clients-same = refl;
+    quiet = prune-quiet;
+  }
+  pruned L e q at r M (no-prune n0 is) = no-event (Prune u e q) r M is means-no-prune
+
+  was-sealed : (e : EpochValue) (r : Reply) (M : State) → SealDone h u (e .0) M r → ServedOk h w (Seal u e) g k (record { response = bare r; world = withUnit w u M })
+  unfolding held
+  was-sealed e r M (did-seal may is answer small) = record {
+    now = h ▹ seal u (e .0);
+    part = later here;
+    machines = with-unit M m (run-step (m .run) may) refl low high is (λ v ne old. seal-others old ne);
+    means = means-edge answer;
+    clients-same = refl;
+    quiet = seal-quiet;
+  }
+  was-sealed e r M (no-seal n0 is) = no-event (Seal u e) r M is means-no-seal
+
+  looked : (L : Map) (e : EpochValue) (p : Position) → L .epoch ≡ e .0 → (r : Response) → ReadDone h u L (p .0) r → ServedOk h w (Read u e p) g k (record { response = r; world = w })
+  looked L e p at r done = record { now = h; part = here; machines = m; means = go r done; clients-same = refl; quiet = λ n noted. noted }
+    where
+      go : (r : Response) → ReadDone h u L (p .0) r → Means h (Read u e p) g k r
+      go r (read-page takes answers) = means-shown (record { moment = h; past = here; by = L; epoch-is = at; takes = takes; answers = answers })
+      go r (read-trimmed takes answers) = means-trimmed (record { moment = h; past = here; by = L; epoch-is = at; takes = takes; answers = answers })
+      go r (read-unwritten takes answers) = means-unwritten (record { moment = h; past = here; by = L; epoch-is = at; takes = takes; answers = answers })
+      go r (no-read n0 n5 n7) = means-no-read n0 n5 n7
+
+-- ---- the sequencer
+
+with-sequencer : {h : History} {w : World} (s : Sequencer) → s .epoch .0 ≤ held h .epoch → Machines h w → Machines h (withSequencer w s)
+with-sequencer s low m = record { run = m .run; held-is = m .held-is; held-good = m .held-good; sequencer-low = low; units-long = m .units-long; units = m .units }
+
+-- ---- the holder
+
+offered : {h : History} {w : World} (m : Machines h w) (g : PageValue) (k : Layout) (r : Reply) (l : Layout) → OfferDone h (w .held) k r l →
+    ServedOk h w Offer g k (record { response = bare r; world = withHeld w l })
+unfolding held
+offered {h} {w} m g k r l (installed may good) = record {
+  now = h ▹ install (mapOf (layOf k));
+  part = later here;
+  machines = record {
+    run = run-step (m .run) may;
+    held-is = refl;
+    held-good = good;
+    sequencer-low = omega (arith, m .sequencer-low, held-rises h (install (mapOf (layOf k))) may);
+    units-long = m .units-long;
+    units = λ u low high. install-is (m .units u low high);
+  };
+  means = means-installed {k = k} (omega (arith, epoch-of k));
+  clients-same = refl;
+  quiet = install-quiet;
+}
+offered {h} {w} m g k r l (not-installed n0) = record {
+  now = h;
+  part = here;
+  machines = record { run = m .run; held-is = m .held-is; held-good = m .held-good; sequencer-low = m .sequencer-low; units-long = m .units-long; units = m .units };
+  means = means-no-install;
+  clients-same = refl;
+  quiet = λ n noted. noted;
+}
+
+-- ---- every request
+
+sequencer-after : {h : History} {w : World} (a : Ask) (g : PageValue) (k : Layout) (q : Asked) → Machines h w → becomes (w .sequencer) q .epoch .0 ≤ held h .epoch →
+    ((r : Response) → Means h a g k r) → ServedOk h w a g k (asking w q)
+unfolding asking after
+sequencer-after {h} {w} a g k q m low means = record {
+  now = h;
+  part = here;
+  machines = with-sequencer (after (w .sequencer) q) (go (eqb (number (w .sequencer) q) 0)) m;
+  means = means (asking w q .response);
+  clients-same = refl;
+  quiet = λ n noted. noted;
+}
+  where
+    go : (b : Bool) → cond b (becomes (w .sequencer) q) (w .sequencer) .epoch .0 ≤ held h .epoch
+    go true = low
+    go false = m .sequencer-low
+
+pub serve-ok : {h : History} {w : World} {a : Ask} {g : PageValue} {k : Layout} → Machines h w → unserved (w .stopped) a ≡ false → AskOk h a g k → ServedOk h w a g k (serve w a g k)
+unfolding serve offeringTo
+serve-ok {h} {w} {g = g} {k} m to fetch-ok = record {
+  now = h;
+  part = here;
+  machines = m;
+  means = subst (λ r. Means h Fetch g k r) (sym (fetch-does (w .held) (m .held-good))) (means-held (subst (λ L. Laid h L) (m .held-is) (held-laid (m .run))) (m .held-good));
+  clients-same = refl;
+  quiet = λ n noted. noted;
+}
+serve-ok {w = w} {g = g} {k} m to (token-ok {e = e}) = sequencer-after (Token e) g k (asked.Token e) m (m .sequencer-low) (λ r. means-token)
+serve-ok {h} {w} {g = g} {k} m to (write-ok {u = u} {e} {p} ok) =
+    let range = unit-range u (unit-runs (isUnit u) (not (getD (w .stopped) (u - 1) true)) to) in
+    let has = laid-good (m .run) (ok .laid) .set-within (p .0) u (ok .serves) in
+    wrote m (range .0) (range .1) g k (ok .by) e p (ok .epoch-is) (ok .laid) (saying (writeSays small (unitAt w u) (e .0) (p .0) (kindOf g) (bytesOf g))) (writeUnit small (unitAt w u) (e .0) (p .0) (kindOf g) (bytesOf g))
+    (write-does (m .run) (m .units u (range .0) (range .1)) (ok .laid) has (ok .epoch-is) (p .0) (kindOf g) (bytesOf g) (ok .above) (ok .asked))
+serve-ok {h} {w} {g = g} {k} m to (look-ok {u = u} {e} {p} ok) =
+    let range = unit-range u (unit-runs (isUnit u) (not (getD (w .stopped) (u - 1) true)) to) in
+    let has = laid-good (m .run) (ok .laid) .set-within (p .0) u (ok .serves) in
+    looked m (range .0) (range .1) g k (ok .by) e p (ok .epoch-is) (shown (unitAt w u) (e .0) (p .0)) (read-does (m .units u (range .0) (range .1)) (ok .laid) has (ok .epoch-is) (p .0))
+serve-ok {h} {w} {g = g} {k} m to (trim-ok {u = u} {e} {p} ok) =
+    let range = unit-range u (unit-runs (isUnit u) (not (getD (w .stopped) (u - 1) true)) to) in
+    let has = laid-good (m .run) (ok .laid) .set-within (p .0) u (ok .serves) in
+    cut m (range .0) (range .1) g k (ok .by) e p (ok .epoch-is) (saying (trimSays small (unitAt w u) (e .0) (p .0))) (trimUnit small (unitAt w u) (e .0) (p .0))
+    (trim-does (m .units u (range .0) (range .1)) (ok .laid) has (ok .epoch-is) (p .0) (ok .above) (ok .asked))
+serve-ok {h} {w} {g = g} {k} m to (prune-ok {u = u} {e} {p} ok) =
+    let range = unit-range u (unit-runs (isUnit u) (not (getD (w .stopped) (u - 1) true)) to) in
+    pruned m (range .0) (range .1) g k (ok .by) e p (ok .epoch-is) (saying (pruneSays (unitAt w u) (e .0) (p .0))) (pruneUnit (unitAt w u) (e .0) (p .0))
+    (prune-does (m .units u (range .0) (range .1)) (ok .laid) (ok .has) (ok .epoch-is) (p .0) (ok .above) (ok .asked))
+serve-ok {h} {w} {g = g} {k} m to (seal-ok {u = u} {e} low small-epoch) =
+    let range = unit-range u (unit-runs (isUnit u) (not (getD (w .stopped) (u - 1) true)) to) in
+    was-sealed m (range .0) (range .1) g k e (edged (unitAt w u) (e .0)) (sealUnit (unitAt w u) (e .0)) (seal-does (m .units u (range .0) (range .1)) (e .0) low small-epoch)
+serve-ok {h} {w} {g = g} {k} m to (offer-ok ok) =
+    offered m g k (saying (offeredTo (w .held) k .answer)) (offeredTo (w .held) k .held) (offer-does (w .held) k (m .run) (m .held-is) ok)
+serve-ok {w = w} {g = g} {k} m to (start-ok {e = e} {p} low) = sequencer-after (Start e p) g k (asked.Start e p) m low (λ r. means-start)

@@ -1,0 +1,96 @@
+-- What a unit answers to a read: the page that it has at the position and no other, and junk never as data. Nothing happens to it.
+-- Rests on UnitIs, Writing and the unit's laws.
+use mathlib.Core.Path.{_≡_, refl, sym, ap, subst, _∙_}
+use mathlib.Core.Bool.{Bool, true, false, cond}
+use Prim.Native.Nat.{ℕ, _≤_, _<_}
+use native.Mathlib.Omega.{arith}
+use borrow.Author.Tests.{ltb-true, ltb-false, le-leb}
+use lib.Dec.{eqb, ltb}
+use lib.ListN.{length}
+use Rattle.num.specs.Limits.{limit}
+use Rattle.layout.specs.Value.{blank}
+use Rattle.layout.proofs.Padding.{padded-front}
+use Rattle.unit.specs.Shape.{small}
+use Rattle.unit.specs.State.{Slot, State, lookup}
+use Rattle.unit.specs.Memory.{valid}
+use Rattle.unit.specs.Unit.{readSays, readShows}
+use Rattle.unit.proofs.Decoding.{is-valid}
+use Rattle.unit.proofs.Lookup.{held}
+use Rattle.unit.proofs.Shown.{shown, shown-below, shown-slot}
+use Rattle.unit.proofs.Marks.{ReadTells, read-tells, read-shown}
+use Rattle.unit.proofs.Marks.ReadTells.{read-position as tells-position, read-sealed as tells-sealed, read-trimmed as tells-trimmed, read-unwritten as tells-unwritten, read-page as tells-page}
+use Rattle.client.specs.declared.message.Reply.the-variants.{Shown, Refused}
+use Rattle.client.specs.declared.message.Response.{Response}
+use Rattle.client.specs.Message.{pageLimit}
+use Rattle.yard.specs.Serve.{bare, kindOf, bytesOf}
+use Rattle.yard.specs.Serve.{pageOf as slotPage, shown as reading}
+use Rattle.vouch.specs.Words.{UnitNo, Epoch}
+use Rattle.vouch.specs.Words.Answer.{shows, trimmed, unwritten}
+use Rattle.vouch.specs.Maps.{Map, Has}
+use Rattle.vouch.specs.History.{History, Laid, sealed}
+use Rattle.vouch.specs.Safety.{Answers}
+use Rattle.vouch.specs.Pages.{pageOf, carried}
+use Rattle.vouch.proofs.UnitIs.{answerOf, UnitIs, ReadTaken, ReadDone}
+use Rattle.vouch.proofs.UnitIs.ReadTaken.{taken-page, taken-trimmed, taken-unwritten}
+use Rattle.vouch.proofs.UnitIs.ReadDone.{read-page, read-trimmed, read-unwritten, no-read}
+use Rattle.vouch.proofs.Writing.{empty-answers, page-answers, takes-of}
+
+-- a letter bears the very page of a slot
+carried-slot : (s : Slot) → length (s .payload) ≤ pageLimit → carried (slotPage s) ≡ pageOf (s .kind) (s .payload)
+unfolding kindOf bytesOf slotPage
+carried-slot s few = rw (le-leb (length (s .payload)) pageLimit few, padded-front pageLimit 0 (s .payload) few)
+
+-- what a unit shows as a page is no longer than one
+shown-short : (M : State) (p : ℕ) → valid small M ≡ true → ¬ (shown M p .kind ≡ 0) → ¬ (shown M p .kind ≡ 3) → length (shown M p .payload) ≤ pageLimit
+shown-short M p v some-kind not-gone = go (ltb p (M .floor)) refl
+  where
+    kept : (s : Slot) → s ≡ lookup p (M .slots) → ¬ (s .kind ≡ 0) → length (s .payload) ≤ pageLimit
+    kept s e k = rw e (held (small .cap) (M .floor) p (M .slots) (is-valid small M v .slots) (rw e at k) .fields .fits)
+
+    go : (b : Bool) → ltb p (M .floor) ≡ b → length (shown M p .payload) ≤ pageLimit
+    go true l = absurd (not-gone (ap (λ (s : Slot). s .kind) (shown-below M p (ltb-true p (M .floor) l))))
+    go false l = kept (shown M p) (shown-slot M p (ltb-false p (M .floor) l)) some-kind
+
+gone-kind : (s : Slot) → s .kind ≡ 3 → answerOf s ≡ trimmed
+unfolding answerOf
+gone-kind s k = rw k
+
+-- the answer where the unit's number is n, and the slot that it shows s
+abbrev told : ℕ → Slot → Response
+told n s = cond (eqb n 0) (record { reply = Shown; page = slotPage s; layout = blank }) (bare (Refused n))
+
+module _ {h : History} {u : UnitNo} {M : State} (is : UnitIs h u M) (p : ℕ) where
+  -- what a unit shows, in the words of the history
+  is-gone : shown M p .kind ≡ 3 → Answers h u p trimmed
+  is-gone a = subst (λ r. Answers h u p r) (gone-kind (shown M p) a) (is .shown-is p)
+
+  is-empty : shown M p .kind ≡ 0 → Answers h u p unwritten
+  is-empty a = subst (λ r. Answers h u p r) (empty-answers (shown M p) a) (is .shown-is p)
+
+  is-page : (s : Slot) → s ≡ shown M p → ¬ (shown M p .kind ≡ 0) → ¬ (shown M p .kind ≡ 3) → Answers h u p (shows (carried (slotPage s)))
+  is-page s same a b =
+      let page-is = page-answers (shown M p) a b ∙ ap shows (sym (carried-slot (shown M p) (shown-short M p (is .is-valid) a b))) in
+      subst (λ t. Answers h u p (shows (carried (slotPage t)))) (sym same) (subst (λ r. Answers h u p r) page-is (is .shown-is p))
+
+  taken-told : {e : Epoch} (n : ℕ) (s : Slot) → (n ≡ 0 → s ≡ shown M p) → M .sealed < e → p < limit → ReadTells M e p n → ReadTaken h u p (told n s)
+  taken-told n s same lt below (tells-position a) = absurd (omega arith)
+  taken-told n s same lt below (tells-sealed a) = absurd (omega arith)
+  taken-told n s same lt below (tells-trimmed x a) = taken-trimmed (is-gone a)
+  taken-told n s same lt below (tells-unwritten x a) = taken-unwritten (is-empty a)
+  taken-told n s same lt below (tells-page x a b) = taken-page (is-page s (same refl) a b)
+
+  pub read-taken : (e : Epoch) → sealed h u < e → p < limit → ReadTaken h u p (reading M e p)
+  unfolding reading
+  read-taken e lt below = taken-told (readSays M e p) (readShows M e p) (read-shown M e p) (omega (arith, is .sealed-is)) below (read-tells M e p)
+
+module _ {h : History} {u : UnitNo} {M : State} {L : Map} {e : Epoch} (is : UnitIs h u M) (laid : Laid h L) (has : Has L u) (at : L .epoch ≡ e) (p : ℕ) where
+  read-told : (n : ℕ) (s : Slot) → (n ≡ 0 → s ≡ shown M p) → ReadTells M e p n → ReadDone h u L p (told n s)
+  read-told n s same (tells-position a) = no-read {n = 2} (λ z. omega arith) (λ z. omega arith) (λ z. omega arith)
+  read-told n s same (tells-sealed a) = no-read {n = 4} (λ z. omega arith) (λ z. omega arith) (λ z. omega arith)
+  read-told n s same (tells-trimmed lt a) = read-trimmed (takes-of is laid has at lt) (is-gone is p a)
+  read-told n s same (tells-unwritten lt a) = read-unwritten (takes-of is laid has at lt) (is-empty is p a)
+  read-told n s same (tells-page lt a b) = read-page (takes-of is laid has at lt) (is-page is p s (same refl) a b)
+
+  pub read-does : ReadDone h u L p (reading M e p)
+  unfolding reading
+  read-does = read-told (readSays M e p) (readShows M e p) (read-shown M e p) (read-tells M e p)

@@ -1,0 +1,163 @@
+-- A reorganise with no other step between ends in done: fetch, a seal for each unit of the new layout, offer, start.
+-- Rests on Beginning and Forward.
+use mathlib.Core.Path.{_≡_, refl, ap, subst, _∙_}
+use mathlib.Core.Bool.{Bool, true, false, cond}
+use mathlib.Core.List.{List, [], _∷_}
+use Prim.Native.Nat.{ℕ, suc, _+_, _-_, _≤_, _<_}
+use native.Mathlib.Omega.{arith}
+use borrow.Author.Tests.{le-leb, leb-true, eq-eqb, ne-eqb}
+use lib.Dec.{eqb, leb}
+use lib.ListN.{getD, set}
+use Rattle.num.specs.Limits.{limit, lastEpoch}
+use Rattle.num.specs.declared.count.Position.{Position}
+use Rattle.num.proofs.Tests.{and-both}
+use Rattle.layout.specs.declared.value.Layout.{Layout}
+use Rattle.layout.specs.Lay.{Lay, _in?_, unitsOf}
+use Rattle.layout.specs.Value.{layOf}
+use Rattle.layout.specs.Places.{above}
+use Rattle.layout.proofs.Sets.{above-next}
+use Rattle.unit.specs.Shape.{small}
+use Rattle.unit.specs.State.{State, edge}
+use Rattle.unit.specs.Unit.{freshUnit, sealUnit}
+use Rattle.unit.proofs.Lookup.{edge-limit}
+use Rattle.sequencer.specs.declared.Sequencer.{Sequencer}
+use Rattle.client.specs.declared.message.Ask.the-variants as ask
+use Rattle.client.specs.declared.message.Reply.{Reply}
+use Rattle.client.specs.declared.message.Reply.the-variants.{Edge}
+use Rattle.client.specs.declared.state.Client.{Client}
+use Rattle.client.specs.declared.state.Stage.the-variants.{Sealing}
+use Rattle.client.specs.Message.{plain}
+use Rattle.client.specs.Client.{inStage, lastNumber}
+use Rattle.client.specs.Turn.{numbered, next, sends}
+use Rattle.client.specs.Way.{unitAbove}
+use Rattle.client.specs.Reorganise.{seals, sealsOn, larger, sealedAt, onSealed}
+use Rattle.client.specs.Take.{answered}
+use Rattle.yard.specs.World.{World, isUnit, running}
+use Rattle.yard.specs.Serve.{bare, atUnit, serve}
+use Rattle.vouch.specs.LastSentence.{exchanges, Conditions}
+use Rattle.vouch.proofs.Exchange.{pass, hold, not-so, waiting, as-turn, sends-on, Asked, exchange-on}
+use Rattle.vouch.proofs.Forward.{Sound, offered, offered-lay, units, units-work, Walk, UnitsOn, seal-tells, seal-on}
+use Rattle.vouch.proofs.Installing.{Comes, comes-as, offer-comes}
+use Rattle.vouch.proofs.Forward.Walk.{walk-end, walk-next}
+
+-- the requests that are left when these units are to be sealed: one each, offer and start
+unfoldable pub requests : List ℕ → ℕ
+requests [] = 2
+requests (u ∷ us) = suc (requests us)
+
+module _ (w : World) (c : ℕ) (sound : Sound w) (may : Conditions w c) where
+  abbrev plan : Layout
+  plan = offered w c sound may
+
+  abbrev k : Layout
+  k = w .held
+
+  abbrev s : Sequencer
+  s = w .sequencer
+
+  -- the client on its way
+  pub record OnWay (y : Client) : Type 0 where
+    pub layout-is : y .layout ≡ k
+    pub plan-is : y .plan ≡ plan
+
+  -- ---- a seal
+
+  next-unit : (y : Client) (u : ℕ) → y .plan ≡ plan → unitAbove (y .plan) u ≡ above u (units w c sound may)
+  unfolding unitAbove
+  next-unit y u plans = ap (λ (l : Layout). above u (unitsOf (layOf l .sets))) plans ∙ ap (λ (l : Lay). above u (unitsOf (l .sets))) (offered-lay w c sound may)
+
+  -- a unit that comes next is one of 1 to 8, and works
+  record NextWorks (v : ℕ) : Type 0 where
+    works : running (w .stopped) v ≡ true
+    low : 1 ≤ v
+    high : v ≤ 8
+
+  next-works : (u v : ℕ) → above u (units w c sound may) ≡ v → u < v → NextWorks v
+  next-works u v is lt =
+      let inside = subst (λ z. (z in? units w c sound may) ≡ true) is (above-next (units w c sound may) u (λ z. omega (arith, is)) .inside) in
+      let works = units-work w c sound may v inside in
+      let range = and-both (leb 1 v) (leb v 8) (and-both (isUnit v) _ works .0) in
+      record { works = works; low = leb-true 1 v (range .0); high = leb-true v 8 (range .1) }
+
+  epoch-few : k .epoch .0 ≤ lastEpoch
+  epoch-few = omega (arith, may .epoch-left)
+
+  module _ (us : List State) (y : Client) (v : ℕ) (e : Position) (on : UnitsOn w us) (way : OnWay y) (is : NextWorks v) (few : e .0 ≤ limit) where
+    abbrev y₃ : Client
+    y₃ = inStage y (Sealing v e)
+
+    abbrev M : State
+    M = getD us (v - 1) (freshUnit v)
+
+    abbrev sealed-units : List State
+    sealed-units = set us (v - 1) (sealUnit M (k .epoch .0))
+
+    abbrev told : Position
+    told = record { 0 = edge M }
+
+    seals-so : seals y v e ≡ sends y₃ (plain (ask.Seal v (k .epoch)))
+    unfolding seals
+    seals-so = ap (λ (l : Layout). sends y₃ (plain (ask.Seal v (l .epoch)))) (way .layout-is)
+
+    seal-asked : Asked w c (w .letters) (may .is-client) (sound .four-clients) (may .few-letters) k k us sealed-units s s y₃ (plain (ask.Seal v (k .epoch))) (bare (Edge told))
+    unfolding serve
+    seal-asked = record {
+      there = not-so (running (w .stopped) v) (is .works);
+      serves = ap (λ (r : Reply). atUnit (waiting w c (w .letters) k us s y₃ (plain (ask.Seal v (k .epoch)))) v (bare r) (sealUnit M (k .epoch .0)))
+          (seal-tells M (k .epoch .0) (on .kept v (is .low) (is .high) .low));
+    }
+
+    abbrev x₃ : Client
+    x₃ = numbered y₃ (next y₃)
+
+    told-few : told .0 ≤ limit
+    told-few = edge-limit small M (on .kept v (is .low) (is .high) .is-valid)
+
+    seal-taken : answered (y₃ .stage) x₃ (bare (Edge told)) ≡ sealsOn x₃ v (larger e told)
+    unfolding answered inStage onSealed sealedAt
+    seal-taken = hold _ _ (leb (told .0) limit) (le-leb (told .0) limit told-few)
+
+    larger-few : larger e told .0 ≤ limit
+    unfolding larger
+    larger-few = go (leb (e .0) (told .0))
+      where
+        go : (b : Bool) → cond b told e .0 ≤ limit
+        go true = told-few
+        go false = few
+
+    way-on : OnWay x₃
+    unfolding inStage numbered
+    way-on = record { layout-is = way .layout-is; plan-is = way .plan-is }
+
+    used-on : x₃ .used .0 ≡ y .used .0 + 1
+    unfolding inStage numbered
+    used-on = refl
+
+    seal-comes : {n : ℕ} → y .used .0 < lastNumber → Comes w c sound may sealed-units (sealsOn x₃ v (larger e told)) n → Comes w c sound may us (seals y v e) (suc n)
+    unfolding exchanges inStage
+    seal-comes {n} left rest = record {
+      end = rest .end;
+      run =
+          as-turn w c (w .letters) seals-so
+          (sends-on w c (w .letters) y₃ (plain (ask.Seal v (k .epoch))) left
+          (exchange-on w c (w .letters) (may .is-client) (sound .four-clients) (may .few-letters) seal-asked
+          (as-turn w c (w .letters) seal-taken (rest .run))));
+      well = rest .well;
+    }
+
+  -- ---- all seals, and what follows
+
+  pub seals-come : {u : ℕ} {rest : List ℕ} → Walk (units w c sound may) u rest → (us : List State) (y : Client) (e : Position) → UnitsOn w us → OnWay y → e .0 ≤ limit →
+      y .used .0 + (requests rest + 2) ≤ lastNumber → Comes w c sound may us (sealsOn y u e) (requests rest)
+  unfolding requests sealsOn
+  seals-come {u} (walk-end none) us y e on way few left =
+      comes-as w c sound may (hold _ _ (eqb (unitAbove (y .plan) u) 0) (eq-eqb (unitAbove (y .plan) u) 0 (next-unit y u (way .plan-is) ∙ none)))
+      (offer-comes w c sound may us y e on (way .plan-is) few left)
+  seals-come {u} (walk-next {v = v} {vs = vs} is lt rest) us y e on way few left =
+      let works = next-works u v is lt in
+      let at : unitAbove (y .plan) u ≡ v = next-unit y u (way .plan-is) ∙ is in
+      comes-as w c sound may
+      (pass _ _ (eqb (unitAbove (y .plan) u) 0) (ne-eqb (unitAbove (y .plan) u) 0 (λ z. omega (arith, at))) ∙ ap (λ z. seals y z e) at)
+      (seal-comes us y v e on way works few (omega (arith, left))
+      (seals-come rest (sealed-units us y v e on way works few) (x₃ us y v e on way works few) (larger e (told us y v e on way works few))
+      (seal-on w us v epoch-few on (works .low) (works .high)) (way-on us y v e on way works few) (larger-few us y v e on way works few) (omega (arith, left, used-on us y v e on way works few))))

@@ -1,0 +1,108 @@
+-- A client that waits, and an answer that means what it says: whatever the client does next, it vouches for it.
+-- Rests on Appends, Fills, Cuts and Reorganises.
+use mathlib.Core.Path.{_≡_, refl, sym, ap, subst, _∙_}
+use mathlib.Core.Bool.{Bool, true, false, cond}
+use native.Mathlib.Omega.{arith}
+use Rattle.num.proofs.Tests.{false-true}
+use Rattle.layout.specs.declared.value.Layout.{Layout}
+use Rattle.layout.specs.Value.{layOf, goodValue}
+use Rattle.layout.specs.Places.{setAt}
+use Rattle.client.specs.declared.message.Page.{Page as PageValue}
+use Rattle.client.specs.declared.message.Reply.the-variants.{Held}
+use Rattle.client.specs.declared.state.Work.{Work}
+use Rattle.client.specs.declared.state.Work.the-variants as work
+use Rattle.client.specs.declared.state.Stage.the-variants.{Drawing, Writing, Reading, Filling, Looking, Trimming, Pruning, Sealing, Offering, Starting}
+use Rattle.client.specs.declared.state.Client.{Client}
+use Rattle.client.specs.Message.{noPage}
+use Rattle.client.specs.Turn.{ends}
+use Rattle.client.specs.Way.{headFor, tailFor}
+use Rattle.vouch.specs.Words.{Last}
+use Rattle.vouch.specs.History.{History}
+use Rattle.vouch.specs.History.Mark.{page, gone}
+use Rattle.vouch.specs.Events.{Run}
+use Rattle.vouch.specs.Pages.{carried}
+use Rattle.vouch.proofs.GoodMap.{unit-within}
+use Rattle.vouch.proofs.Walks.{tail-last}
+use Rattle.client.specs.declared.message.Ask.{Ask}
+use Rattle.client.specs.declared.message.Response.{Response}
+use Rattle.client.specs.declared.state.Stage.{Stage}
+use Rattle.client.specs.declared.state.Stage.the-variants.{Fetching}
+use Rattle.client.specs.Client.{holding}
+use Rattle.client.specs.Take.{goesOn, holds, onFetched, answered}
+use Rattle.vouch.proofs.Meaning.{Means, WorkOk, Fetched, Walking, StageOk, Waits}
+use Rattle.vouch.proofs.Meaning.Means.{means-held, means-token, means-wrote, means-written, means-no-write, means-shown, means-trimmed, means-unwritten, means-no-read, means-cut, means-no-cut, means-pruned, means-no-prune, means-edge, means-no-seal, means-installed, means-no-install, means-start}
+use Rattle.vouch.proofs.Meaning.Waits.{waits-fetch, waits-token, waits-write, waits-read, waits-fill, waits-look, waits-trim, waits-prune, waits-seal, waits-offer, waits-start}
+use Rattle.vouch.proofs.Turns.{TurnOk}
+use Rattle.vouch.proofs.Walking.{is-good, walk-start}
+use Rattle.vouch.proofs.Appends.{head-is, tail-is, draws-ok, token-next, write-fine, write-refused}
+use Rattle.vouch.proofs.Fills.{fills-ok, fill-fine, fill-refused, look-shown, look-refused}
+use Rattle.vouch.proofs.Cuts.{trims-ok, pruned, reads-ok, trim-fine, trim-refused, prune-fine, prune-refused, read-shown, read-gone, read-none, read-refused}
+use Rattle.vouch.proofs.Reorganises.{reorganises-ok, seal-fine, seal-refused, offer-fine, offer-refused, started}
+
+-- the first request after the fetch. b: the client before its turn
+goes-on : {h : History} → Run h → (b c : Client) (w : Work) → c .life ≡ b .life → c .used ≡ b .used → c .work ≡ b .work →
+    c .work ≡ w → WorkOk h w (c .position) (c .page) → Fetched h (c .layout) → TurnOk h b (goesOn w c)
+unfolding goesOn
+goes-on run b c work.Append life used works is ok fetched = draws-ok run b c life used 1 (record { is-append = is; fetched = fetched; asked = ok })
+goes-on run b c (work.Read q) life used works is (at, low) fetched =
+    let same = tail-is c (fetched .is-good) low in
+    reads-ok run b c life used works (tailFor c) (record {
+      is-read = is ∙ ap work.Read (sym at);
+      fetched = fetched;
+      low = low;
+      is-tail = subst (λ t. Last t (setAt (layOf (c .layout)) (c .position .0))) (sym same) (tail-last (layOf (c .layout)) (is-good fetched) (c .position .0));
+    })
+goes-on {h} run b c (work.Fill q) life used works is (asked, low) fetched =
+    fills-ok run b c life used works (headFor c) (record {
+      filled = q;
+      is-fill = is;
+      walk = subst (λ u. Walking h (c .layout) (c .position .0) u (page (carried (c .page)))) (sym (head-is c (fetched .is-good) low)) (walk-start (page (carried (c .page))) fetched low);
+      asked = asked;
+    })
+goes-on {h} run b c (work.Trim q) life used works is (asked, low) fetched =
+    trims-ok run b c life used works (headFor c) (record {
+      trimmed-at = q;
+      is-trim = is;
+      walk = subst (λ u. Walking h (c .layout) (c .position .0) u gone) (sym (head-is c (fetched .is-good) low)) (walk-start gone fetched low);
+      asked = asked;
+    })
+goes-on run b c (work.Prune q) life used works is ok fetched =
+    pruned run b c life used works 0 q is fetched ok (λ v has le. absurd (omega (arith, unit-within (layOf (c .layout)) has .0)))
+goes-on run b c work.Reorganise life used works is ok fetched = reorganises-ok run b c life used works is fetched
+
+fetched-ok : {h : History} → Run h → (c : Client) (l : Layout) → WorkOk h (c .work) (c .position) (c .page) → Fetched h l → TurnOk h c (onFetched c Held l)
+unfolding onFetched holds holding
+fetched-ok {h} run c l ok fetched = go (goodValue l) (fetched .is-good)
+  where
+    go : (b : Bool) → b ≡ true → TurnOk h c (cond b (goesOn (c .work) (holding c l)) (ends c 10))
+    go true e = goes-on run c (holding c l) (c .work) refl refl refl refl ok fetched
+    go false e = absurd (false-true e)
+
+pub reply-ok : {h : History} {a : Ask} {g : PageValue} {k : Layout} {r : Response} → Run h → (c : Client) (st : Stage) → StageOk h c st →
+    Waits (c .layout) (c .position) (c .page) (c .plan) st a g k → Means h a g k r → TurnOk h c (answered st c r)
+unfolding answered
+reply-ok run c Fetching ok waits-fetch (means-held {l = l} laid good) = fetched-ok run c l ok (record { laid = laid; is-good = good })
+reply-ok {r = r} run c (Drawing n) ok waits-token means-token = token-next run c n (r .reply) ok
+reply-ok run c (Writing u n) ok waits-write (means-wrote mk) = write-fine run c u n ok mk
+reply-ok run c (Writing u n) ok waits-write (means-written was) = write-refused run c u n ok 6 (λ e. was)
+reply-ok run c (Writing u n) ok waits-write (means-no-write {n = j} other) = write-refused run c u n ok j (λ e. absurd (other e))
+reply-ok run c (Reading u) ok waits-read (means-shown {x = x} saw) = read-shown run c u ok x saw
+reply-ok run c (Reading u) ok waits-read (means-trimmed saw) = read-gone run c u ok noPage saw
+reply-ok run c (Reading u) ok waits-read (means-unwritten saw) = read-none run c u ok noPage saw
+reply-ok run c (Reading u) ok waits-read (means-no-read {n = j} j0 j5 j7) = read-refused run c u ok j noPage j0 j5 j7
+reply-ok run c (Filling u) ok waits-fill (means-wrote mk) = fill-fine run c u ok mk
+reply-ok run c (Filling u) ok waits-fill (means-written was) = fill-refused run c u ok 6 (λ e. was)
+reply-ok run c (Filling u) ok waits-fill (means-no-write {n = j} other) = fill-refused run c u ok j (λ e. absurd (other e))
+reply-ok run c (Looking u) ok waits-look (means-shown {x = x} saw) = look-shown run c u ok x saw
+reply-ok run c (Looking u) ok waits-look (means-trimmed saw) = look-refused run c u ok 5 noPage
+reply-ok run c (Looking u) ok waits-look (means-unwritten saw) = look-refused run c u ok 7 noPage
+reply-ok run c (Looking u) ok waits-look (means-no-read {n = j} j0 j5 j7) = look-refused run c u ok j noPage
+reply-ok run c (Trimming u) ok waits-trim (means-cut mk) = trim-fine run c u ok mk
+reply-ok run c (Trimming u) ok waits-trim (means-no-cut {n = j}) = trim-refused run c u ok j
+reply-ok run c (Pruning u) ok waits-prune (means-pruned mks) = prune-fine run c u ok mks
+reply-ok run c (Pruning u) ok waits-prune (means-no-prune {n = j}) = prune-refused run c u ok j
+reply-ok run c (Sealing u x) ok waits-seal (means-edge {x = y} s) = seal-fine run c u x ok y s
+reply-ok run c (Sealing u x) ok waits-seal (means-no-seal {n = j}) = seal-refused run c u x ok j
+reply-ok run c (Offering p) ok waits-offer (means-installed low) = offer-fine run c p ok low
+reply-ok run c (Offering p) ok waits-offer (means-no-install {n = j}) = offer-refused run c p ok j
+reply-ok {r = r} run c Starting ok waits-start means-start = started run c (r .reply) ok

@@ -1,0 +1,188 @@
+-- A read, with no other step between: one request to fetch, one to the tail, and it ends with what the tail answers.
+-- Rests on Beginning and Walks.
+use mathlib.Core.Path.{_≡_, refl, sym, ap, _∙_}
+use mathlib.Core.Bool.{Bool, true, false, cond}
+use mathlib.Core.List.{[], _∷_}
+use Prim.Native.Nat.{ℕ, _+_, _-_, _≤_, _<_}
+use native.Mathlib.Omega.{arith}
+use borrow.Author.Tests.{lt-leb, eqb-true}
+use lib.Dec.{eqb, leb}
+use lib.ListN.{length}
+use lib.Seq.{getD-append-seam, getD-set-same}
+use Rattle.num.specs.Limits.{limit}
+use Rattle.num.specs.declared.count.Position.{Position}
+use Rattle.layout.specs.Value.{layOf, goodValue, blank}
+use Rattle.layout.specs.Places.{setAt, tailOf}
+use Rattle.unit.specs.State.{Slot, State}
+use Rattle.unit.specs.Unit.{readSays, readShows}
+use Rattle.client.specs.declared.message.Ask.the-variants as ask
+use Rattle.client.specs.declared.message.Page.{Page}
+use Rattle.client.specs.declared.message.Query.{Query}
+use Rattle.client.specs.declared.message.Reply.the-variants.{Shown, Refused}
+use Rattle.client.specs.declared.message.Response.{Response}
+use Rattle.client.specs.declared.message.Stamp.{Stamp}
+use Rattle.client.specs.declared.state.Client.{Client}
+use Rattle.client.specs.declared.state.Work.the-variants.{Read}
+use Rattle.client.specs.declared.state.Stage.the-variants.{Reading}
+use Rattle.client.specs.declared.turn.Outcome.{Outcome}
+use Rattle.client.specs.declared.turn.Turn.{Turn}
+use Rattle.client.specs.Message.{noPage, plain}
+use Rattle.client.specs.Client.{fresh, busy, jobOf, inStage, holding, lastNumber}
+use Rattle.client.specs.Turn.{numbered, next, sends, outcomeOf, over, otherwise}
+use Rattle.client.specs.Turn.{ends as endsWith}
+use Rattle.client.specs.Begin.{withJob}
+use Rattle.client.specs.Read.{reads, onRead}
+use Rattle.client.specs.Way.{tailFor}
+use Rattle.client.specs.Take.{goesOn, answered}
+use Rattle.yard.specs.World.{World, running, clientAt, unitAt, letterAt, blankLetter}
+use Rattle.yard.specs.Serve.{bare, pageOf, serve}
+use Rattle.yard.specs.Serve.{shown as reading-of}
+use Rattle.yard.specs.Steps.{Done, fine, request, ended, answerTo}
+use Rattle.vouch.specs.Runs.{result}
+use Rattle.vouch.specs.LastSentence.{Goes, begin, deliver, exchanges, reading}
+use Rattle.vouch.proofs.Walks.{units-at}
+use Rattle.vouch.proofs.Exchange.{pass, not-so, yard, place, as-turn, sends-on, after, waiting, request-served, answer-taken, Asked, exchange-ends}
+use Rattle.vouch.proofs.Beginning.{Ready, Fit, fetched, begin-fetch, fetch-leads}
+
+-- the page of an answer, none unless it is 0
+abbrev pub shownBy : ℕ → Slot → Page
+shownBy n s = cond (eqb n 0) (pageOf s) noPage
+
+-- the client ends with the number and the page that it is answered
+takes-answer : (x : Client) (n : ℕ) (s : Slot) (b : Bool) → eqb n 0 ≡ b →
+    let r : Response = cond b (record { reply = Shown; page = pageOf s; layout = blank }) (bare (Refused n)) in
+    onRead x (r .reply) (r .page) ≡ over x n (cond b (pageOf s) noPage)
+unfolding onRead otherwise endsWith
+takes-answer x n s true e = ap (λ m. over x m (pageOf s)) (sym (eqb-true n 0 e))
+takes-answer x n s false e = pass _ _ (eqb n 0) e
+
+module _ (w : World) (c : ℕ) (ready : Ready w c) (p : Position) (below : p .0 < limit) (good : goodValue (w .held) ≡ true) where
+  fit : Fit (jobOf (Read p))
+  fit = record { below = lt-leb limit (p .0) below; short = refl }
+
+  abbrev x : Client
+  x = fetched w c ready (jobOf (Read p)) fit
+
+  -- the tail of p's set
+  abbrev pub tail : ℕ
+  tail = tailOf (setAt (layOf (w .held)) (p .0))
+
+  abbrev ask-tail : Query
+  ask-tail = plain (ask.Read tail (w .held .epoch) p)
+
+  tail-is : tailFor x ≡ tail
+  unfolding tailFor holding numbered withJob
+  tail-is = ap tailOf (units-at (w .held) (p .0) good below)
+
+  -- the client once it asks the tail
+  abbrev y : Client
+  y = inStage x (Reading tail)
+
+  reads-tail : goesOn (Read p) x ≡ sends y ask-tail
+  unfolding goesOn reads holding numbered withJob
+  reads-tail = ap (λ u. sends (inStage x (Reading u)) (plain (ask.Read u (w .held .epoch) p))) tail-is
+
+  abbrev M : State
+  M = unitAt w tail
+
+  abbrev pub says : ℕ
+  says = readSays M (w .held .epoch .0) (p .0)
+
+  abbrev pub shows : Page
+  shows = shownBy says (readShows M (w .held .epoch .0) (p .0))
+
+  abbrev response : Response
+  response = reading-of M (w .held .epoch .0) (p .0)
+
+  module _ (works : running (w .stopped) tail ≡ true) (left : clientAt w c .used .0 + 2 ≤ lastNumber) where
+    asks : Asked w c (w .letters) (ready .is-client) (ready .clients) (ready .few) (w .held) (w .held) (w .units) (w .units) (w .sequencer) (w .sequencer) y ask-tail response
+    unfolding serve
+    asks = record { there = not-so (running (w .stopped) tail) works; serves = refl }
+
+    taken : answered (y .stage) (numbered y (next y)) response ≡ over (numbered y (next y)) says shows
+    unfolding answered inStage reading-of
+    taken = takes-answer (numbered y (next y)) says (readShows M (w .held .epoch .0) (p .0)) (eqb says 0) refl
+
+    abbrev outcome : Outcome
+    outcome = record { number = says; position = p; epoch = w .held .epoch; page = shows }
+
+    abbrev pub at : ℕ
+    at = length (w .letters)
+
+    -- asked: the yard when the read's request is about to reach the tail
+    pub record ReadGoes : Type 0 where
+      pub done : Done
+      pub run : Goes w (reading w c p) done
+      pub fine-done : done .answer ≡ 0
+      pub who : done .who ≡ c
+      pub outcome-is : done .outcome ≡ outcome
+      pub asked : World
+      pub leads : result (result (result w (begin c (jobOf (Read p))) .world) (deliver at) .world) (deliver at) .world ≡ asked
+      pub held-is : asked .held ≡ w .held
+      pub stamp-is : Stamp
+      pub letter-is : letterAt asked at ≡ request stamp-is ask-tail
+      pub brought : result asked (deliver at) .answer ≡ 0
+      pub answer-is : letterAt (result asked (deliver at) .world) at ≡ answerTo stamp-is (serve asked (ask-tail .ask) (ask-tail .page) (ask-tail .layout) .response)
+      pub is-busy : busy (clientAt (result asked (deliver at) .world) c .stage) ≡ true
+      pub work-is : clientAt (result asked (deliver at) .world) c .work ≡ Read p
+      pub last-is : result (result asked (deliver at) .world) (deliver at) ≡ done
+
+    number-left : y .used .0 < lastNumber
+    unfolding inStage holding numbered withJob
+    number-left = omega (arith, left)
+
+    abbrev t : Turn
+    t = over (numbered y (next y)) says shows
+
+    abbrev finish : Done
+    finish = record { answer = 0; who = c; outcome = t .outcome; world = after w c (w .letters) (w .held) (w .units) (w .sequencer) t }
+
+    abbrev Z : World
+    Z = waiting w c (w .letters) (w .held) (w .units) (w .sequencer) y ask-tail
+
+    abbrev me : Stamp
+    me = record { client = c; life = y .life; number = next y }
+
+    abbrev Z′ : World
+    Z′ = yard w c (w .letters) (w .held) (w .units) (w .sequencer) (numbered y (next y)) (answerTo me response ∷ [])
+
+    leads-there : result (result (result w (begin c (jobOf (Read p))) .world) (deliver at) .world) (deliver at) .world ≡ Z
+    unfolding sends numbered
+    leads-there =
+        fetch-leads w c ready (jobOf (Read p)) fit good
+        ∙ (ap (λ (z : Turn). after w c (w .letters) (w .held) (w .units) (w .sequencer) z) reads-tail
+        ∙ ap (λ (z : Turn). after w c (w .letters) (w .held) (w .units) (w .sequencer) z) (pass _ _ (leb lastNumber (y .used .0)) (lt-leb lastNumber (y .used .0) number-left)))
+
+    is-served : result Z (deliver at) ≡ fine Z′
+    is-served = request-served w c (w .letters) (ready .is-client) (ready .clients) (ready .few) (w .held) (w .held) (w .units) (w .units) (w .sequencer) (w .sequencer) y ask-tail response (asks .there) (asks .serves)
+
+    is-taken : result Z′ (deliver at) ≡ finish
+    unfolding over
+    is-taken =
+        answer-taken w c (w .letters) (ready .is-client) (ready .clients) (ready .few) (w .held) (w .units) (w .sequencer) y response
+        ∙ ap (λ (z : Turn). record { answer = 0; who = ended c (z .act); outcome = z .outcome; world = after w c (w .letters) (w .held) (w .units) (w .sequencer) z }) taken
+
+    client-now : clientAt Z′ c ≡ numbered y (next y)
+    client-now = getD-set-same (w .clients) (c - 1) (numbered y (next y)) fresh (place w c (w .letters) (ready .is-client) (ready .clients) (ready .few))
+
+    pub read-goes : ReadGoes
+    unfolding exchanges over outcomeOf inStage holding numbered withJob serve
+    read-goes = record {
+      done = finish;
+      run = begin-fetch w c ready (jobOf (Read p)) fit good
+          (as-turn w c (w .letters) reads-tail
+          (sends-on w c (w .letters) y ask-tail number-left (exchange-ends w c (w .letters) (ready .is-client) (ready .clients) (ready .few) asks t taken)));
+      fine-done = refl;
+      who = refl;
+      outcome-is = refl;
+      asked = Z;
+      leads = leads-there;
+      held-is = refl;
+      stamp-is = me;
+      letter-is = getD-append-seam (w .letters) (request me ask-tail) [] blankLetter;
+      brought = ap (λ (d : Done). d .answer) is-served;
+      answer-is = ap (λ (d : Done). letterAt (d .world) at) is-served ∙ getD-append-seam (w .letters) (answerTo me response) [] blankLetter;
+      is-busy = ap (λ (d : Done). busy (clientAt (d .world) c .stage)) is-served ∙ ap (λ (z : Client). busy (z .stage)) client-now;
+      work-is = ap (λ (d : Done). clientAt (d .world) c .work) is-served ∙ ap (λ (z : Client). z .work) client-now;
+      last-is = ap (λ (d : Done). result (d .world) (deliver at)) is-served ∙ is-taken;
+    }

@@ -1,0 +1,51 @@
+-- What a unit does with a seal: where its answer is fine the event may come, and what it answers is its edge, 2^40 at most.
+-- Rests on UnitIs, Untouched, Edges and the unit's laws.
+use mathlib.Core.Path.{_≡_, sym, subst, _∙_}
+use Prim.Native.Nat.{_≤_}
+use native.Mathlib.Omega.{arith}
+use borrow.Author.Tests.{le-ltb}
+use Rattle.num.specs.Limits.{lastEpoch}
+use Rattle.unit.specs.Shape.{small}
+use Rattle.unit.specs.State.{State, edge}
+use Rattle.unit.specs.Unit.{sealSays, sealTells, sealUnit}
+use Rattle.unit.proofs.Answers.{by-answer}
+use Rattle.unit.proofs.Lookup.{edge-limit}
+use Rattle.unit.proofs.Lasting.{seal-finds, seal-lasts, seal-edge}
+use Rattle.unit.proofs.Shown.{seal-shown, seal-refused}
+use Rattle.client.specs.declared.message.Reply.the-variants.{Edge}
+use Rattle.yard.specs.Serve.{edged}
+use Rattle.vouch.specs.Words.{UnitNo, Epoch}
+use Rattle.vouch.specs.History.{History, held, sealed}
+use Rattle.vouch.specs.History.Event.{seal}
+use Rattle.vouch.specs.History.History.{_▹_}
+use Rattle.vouch.specs.Edges.{SealAnswer}
+use Rattle.vouch.specs.Safety.{Answers}
+use Rattle.vouch.proofs.Units.{seal-touches, answers-on, sealed-now}
+use Rattle.vouch.proofs.Edges.{seal-answers}
+use Rattle.vouch.proofs.UnitIs.{answerOf, UnitIs, SealDone}
+use Rattle.vouch.proofs.UnitIs.SealDone.{did-seal, no-seal}
+use Rattle.vouch.proofs.Untouched.{edge-is}
+
+module _ {h : History} {u : UnitNo} {M : State} (is : UnitIs h u M) (n : Epoch) (in-force : n ≤ held h .epoch) (few : n ≤ lastEpoch) where
+  sealed-is-now : sealSays M n ≡ 0 → UnitIs (h ▹ seal u n) u (sealUnit M n)
+  sealed-is-now z =
+      let lasts = seal-lasts small M n (is .is-valid) few in
+      record {
+        is-valid = lasts .isValid;
+        sealed-is = lasts .done z ∙ sym (sealed-now h u n);
+        shown-is = λ p. subst (λ s. Answers (h ▹ seal u n) u p (answerOf s)) (sym (seal-shown M n p)) (answers-on seal-touches (is .shown-is p));
+      }
+
+  pub seal-does : SealDone h u n (sealUnit M n) (edged M n)
+  unfolding edged
+  seal-does =
+      by-answer (λ r. SealDone h u n (sealUnit M n) r) (sealSays M n)
+      (λ z. did-seal (record { rises = omega (arith, seal-finds M n z, is .sealed-is); in-force = in-force }) (sealed-is-now z)
+      (subst (λ g. SealAnswer (h ▹ seal u n) u n g) (sym (seal-edge M n z .0)) (seal-answers (edge-is is)))
+      (omega (arith, seal-edge M n z .0, edge-limit small M (is .is-valid))))
+      (λ k. no-seal k (subst (λ N. UnitIs h u N) (sym (seal-refused M n k)) is))
+
+-- forward: a seal that is not below the sealed epoch is fine
+pub seal-fine : {h : History} {u : UnitNo} {M : State} → UnitIs h u M → (n : Epoch) → sealed h u ≤ n → edged M n ≡ Edge (record { 0 = edge M })
+unfolding edged sealSays sealTells
+seal-fine {M = M} is n le = rw (le-ltb n (M .sealed) (omega (arith, is .sealed-is)))

@@ -1,0 +1,74 @@
+-- A unit and its history: what a unit's state says of what happened to it, and for each request what its answer says: which event came, or none.
+-- Rests on the unit's and the yard's rules, and on specs/Events, Edges and Safety.
+use mathlib.Core.Path.{_≡_}
+use mathlib.Core.Bool.{true, cond}
+use Prim.Native.Nat.{ℕ, _≤_}
+use lib.Dec.{eqb}
+use Rattle.num.specs.Limits.{limit}
+use Rattle.num.specs.declared.count.Position.{Position}
+use Rattle.layout.specs.Value.{blank}
+use Rattle.unit.specs.Shape.{small}
+use Rattle.unit.specs.State.{Slot, State}
+use Rattle.unit.specs.Memory.{valid}
+use Rattle.unit.proofs.Shown.{shown}
+use Rattle.client.specs.declared.message.Page.{Page as PageValue}
+use Rattle.client.specs.declared.message.Reply.{Reply}
+use Rattle.client.specs.declared.message.Reply.the-variants.{Fine, Shown, Edge, Refused}
+use Rattle.client.specs.declared.message.Response.{Response}
+use Rattle.yard.specs.Serve.{bare}
+use Rattle.vouch.specs.Words.{UnitNo, Pos, Epoch, Page, Answer, Before}
+use Rattle.vouch.specs.Words.Answer.{shows, trimmed, unwritten}
+use Rattle.vouch.specs.Maps.{Map}
+use Rattle.vouch.specs.History.{History, MarkedBy, sealed}
+use Rattle.vouch.specs.History.Event.{write, trim, prune, seal}
+use Rattle.vouch.specs.History.History.{_▹_}
+use Rattle.vouch.specs.History.Mark.{page}
+use Rattle.vouch.specs.Events.{Takes, MayWrite, MayTrim, MayPrune, MaySeal}
+use Rattle.vouch.specs.Edges.{SealAnswer}
+use Rattle.vouch.specs.Safety.{Answers}
+use Rattle.vouch.specs.Pages.{pageOf, carried}
+
+-- what a slot answers to a read: "trimmed" of kind 3, "unwritten" where there is none (kind 0), and otherwise its page
+unfoldable pub answerOf : Slot → Answer
+answerOf s = cond (eqb (s .kind) 3) trimmed (cond (eqb (s .kind) 0) unwritten (shows (pageOf (s .kind) (s .payload))))
+
+-- M is the state of the unit u after h: its sealed epoch, and what it shows at every position (below the floor a slot of kind 3).
+-- Its edge is one too: `edge-is`.
+pub record UnitIs (h : History) (u : UnitNo) (M : State) : Type 0 where
+  pub is-valid : valid small M ≡ true
+  pub sealed-is : M .sealed ≡ sealed h u
+  pub shown-is : (p : Pos) → Answers h u p (answerOf (shown M p))
+
+-- ---- what each answer says. M is the unit afterwards
+
+-- 6 at a unit that is not the first of its set: it has that very page
+pub data WriteDone (h : History) (u : UnitNo) (L : Map) (p : Pos) (X : Page) (e : Epoch) (M : State) : Reply → Type 0 where
+  did-write : MayWrite h u L p X → UnitIs (h ▹ write u L p X) u M → WriteDone h u L p X e M Fine
+  was-written : ((v : UnitNo) → Before v u (L .set p) → MarkedBy h u p (page X) e) → UnitIs h u M → WriteDone h u L p X e M (Refused 6)
+  no-write : {n : ℕ} → ¬ (n ≡ 0) → ¬ (n ≡ 6) → UnitIs h u M → WriteDone h u L p X e M (Refused n)
+
+-- a trim or prune that is fine is an event, also where it changes nothing
+pub data TrimDone (h : History) (u : UnitNo) (L : Map) (p : Pos) (M : State) : Reply → Type 0 where
+  did-trim : MayTrim h u L p → UnitIs (h ▹ trim u L p) u M → TrimDone h u L p M Fine
+  no-trim : {n : ℕ} → ¬ (n ≡ 0) → UnitIs h u M → TrimDone h u L p M (Refused n)
+
+pub data PruneDone (h : History) (u : UnitNo) (L : Map) (q : Pos) (M : State) : Reply → Type 0 where
+  did-prune : MayPrune h u L q → UnitIs (h ▹ prune u L q) u M → PruneDone h u L q M Fine
+  no-prune : {n : ℕ} → ¬ (n ≡ 0) → UnitIs h u M → PruneDone h u L q M (Refused n)
+
+pub data SealDone (h : History) (u : UnitNo) (n : Epoch) (M : State) : Reply → Type 0 where
+  did-seal : {g : Position} → MaySeal h u n → UnitIs (h ▹ seal u n) u M → SealAnswer (h ▹ seal u n) u n (g .0) → g .0 ≤ limit → SealDone h u n M (Edge g)
+  no-seal : {k : ℕ} → ¬ (k ≡ 0) → UnitIs h u M → SealDone h u n M (Refused k)
+
+-- a read that the unit takes: its epoch is above the sealed one, the position below 2^40. It leaves the unit as it was
+pub data ReadTaken (h : History) (u : UnitNo) (p : Pos) : Response → Type 0 where
+  taken-page : {g : PageValue} → Answers h u p (shows (carried g)) → ReadTaken h u p (record { reply = Shown; page = g; layout = blank })
+  taken-trimmed : Answers h u p trimmed → ReadTaken h u p (bare (Refused 5))
+  taken-unwritten : Answers h u p unwritten → ReadTaken h u p (bare (Refused 7))
+
+-- any read
+pub data ReadDone (h : History) (u : UnitNo) (L : Map) (p : Pos) : Response → Type 0 where
+  read-page : {g : PageValue} → Takes h u L → Answers h u p (shows (carried g)) → ReadDone h u L p (record { reply = Shown; page = g; layout = blank })
+  read-trimmed : Takes h u L → Answers h u p trimmed → ReadDone h u L p (bare (Refused 5))
+  read-unwritten : Takes h u L → Answers h u p unwritten → ReadDone h u L p (bare (Refused 7))
+  no-read : {n : ℕ} → ¬ (n ≡ 0) → ¬ (n ≡ 5) → ¬ (n ≡ 7) → ReadDone h u L p (bare (Refused n))

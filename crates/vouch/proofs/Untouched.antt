@@ -1,0 +1,77 @@
+-- Units that an event leaves alone, and fresh ones.
+-- Rests on UnitIs, Units and the unit's laws.
+use mathlib.Core.Path.{_≡_, refl, sym, ap, subst, _∙_}
+use Prim.Native.Nat.{_≤_}
+use Rattle.unit.specs.Shape.{small}
+use Rattle.unit.specs.State.{Slot, State, nothing, edge}
+use Rattle.unit.specs.Unit.{freshUnit}
+use Rattle.unit.proofs.Keeping.{fresh-valid}
+use Rattle.unit.proofs.Shown.{shown-fresh, shown-edge}
+use Rattle.vouch.specs.Words.{UnitNo, Pos, Epoch, Page}
+use Rattle.vouch.specs.Words.Answer.{unwritten}
+use Rattle.vouch.specs.Maps.{Map}
+use Rattle.vouch.specs.History.{Note, Event, History, Unmarked, sealed}
+use Rattle.vouch.specs.History.Event.{ask, write, trim, prune, seal, install}
+use Rattle.vouch.specs.History.History.{fresh, _▹_}
+use Rattle.vouch.specs.Edges.{Edge}
+use Rattle.vouch.specs.Safety.{Answers}
+use Rattle.vouch.specs.Safety.Answers.{has-none}
+use Rattle.vouch.proofs.Marks.{no-mark}
+use Rattle.vouch.proofs.Units.{Touches, write-touches, trim-touches, prune-touches, ask-touches, seal-touches, install-touches, answers-on, sealed-other}
+use Rattle.vouch.proofs.UnitIs.{answerOf, UnitIs}
+
+-- ---- where nothing is shown
+
+pub none-answers : {s : Slot} → s ≡ nothing → answerOf s ≡ unwritten
+unfolding answerOf
+none-answers e = ap answerOf e
+
+pub not-marked : {h : History} {u : UnitNo} {p : Pos} → Answers h u p unwritten → Unmarked h u p
+not-marked (has-none unmarked) = unmarked
+
+-- a unit's edge is one
+pub edge-is : {h : History} {u : UnitNo} {M : State} → UnitIs h u M → Edge h u (edge M)
+edge-is {h} {u} {M} is p at =
+    not-marked (subst (λ r. Answers h u p r) (none-answers (shown-edge small M p (is .is-valid) at)) (is .shown-is p))
+
+pub fresh-is : (L : Map) (u : UnitNo) → 1 ≤ u → u ≤ 8 → UnitIs (fresh L) u (freshUnit u)
+unfolding sealed
+fresh-is L u least most = record {
+  is-valid = fresh-valid small u least most;
+  sealed-is = refl;
+  shown-is = λ p. subst (λ r. Answers (fresh L) u p r) (sym (none-answers (shown-fresh u p))) (has-none (λ m a. no-mark));
+}
+
+-- ---- units that an event leaves alone
+
+pub other-is : {h : History} {ev : Event} {u : UnitNo} {M : State} → ((p : Pos) → ¬ Touches ev u p) → sealed (h ▹ ev) u ≡ sealed h u → UnitIs h u M → UnitIs (h ▹ ev) u M
+other-is none same is = record {
+  is-valid = is .is-valid;
+  sealed-is = is .sealed-is ∙ sym same;
+  shown-is = λ p. answers-on (none p) (is .shown-is p);
+}
+
+module _ {h : History} {v : UnitNo} {M : State} (is : UnitIs h v M) where
+  pub ask-is : {w : Note} → UnitIs (h ▹ ask w) v M
+  unfolding sealed
+  ask-is = other-is (λ p. ask-touches) refl is
+
+  pub install-is : {L : Map} → UnitIs (h ▹ install L) v M
+  unfolding sealed
+  install-is = other-is (λ p. install-touches) refl is
+
+  module _ {u : UnitNo} (other : ¬ (v ≡ u)) where
+    pub write-others : {L : Map} {p : Pos} {X : Page} → UnitIs (h ▹ write u L p X) v M
+    unfolding sealed
+    write-others = other-is (λ p t. other (write-touches t .0)) refl is
+
+    pub trim-others : {L : Map} {p : Pos} → UnitIs (h ▹ trim u L p) v M
+    unfolding sealed
+    trim-others = other-is (λ p t. other (trim-touches t .0)) refl is
+
+    pub prune-others : {L : Map} {q : Pos} → UnitIs (h ▹ prune u L q) v M
+    unfolding sealed
+    prune-others = other-is (λ p t. other (prune-touches t .0)) refl is
+
+    pub seal-others : {n : Epoch} → UnitIs (h ▹ seal u n) v M
+    seal-others {n} = other-is (λ p. seal-touches) (sealed-other h u v n other) is

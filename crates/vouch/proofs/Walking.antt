@@ -1,0 +1,109 @@
+-- A walk along the set of a position, or along the units of a layout: what the next request vouches for, and what is settled after the last.
+-- Rests on Meaning and Walks.
+use mathlib.Core.Path.{_≡_, refl, subst}
+use mathlib.Core.Bool.{true}
+use Prim.Native.Nat.{_≤_, _<_}
+use native.Mathlib.Omega.{arith}
+use native.Mathlib.Decide.{decLt}
+use Rattle.num.specs.Limits.{limit}
+use Rattle.layout.specs.declared.value.Layout.{Layout}
+use Rattle.layout.specs.Lay.{good}
+use Rattle.layout.specs.Value.{layOf}
+use Rattle.layout.specs.Places.{setAt, headOf, after}
+use Rattle.layout.proofs.Values.{value-of-good}
+use Rattle.vouch.specs.Words.{UnitNo, Pos, Page, Before}
+use Rattle.vouch.specs.Maps.{Map, Has, Serves, Good}
+use Rattle.vouch.specs.History.{History, Noted, Mark, MarkedBy}
+use Rattle.vouch.specs.History.Note.{store, trimAt, pruneTo}
+use Rattle.vouch.specs.History.Mark.{page, gone}
+use Rattle.vouch.specs.Safety.{Settled}
+use Rattle.vouch.specs.Layouts.{mapOf}
+use Rattle.vouch.proofs.Order.{before-in, before-less, less-before}
+use Rattle.vouch.proofs.GoodMap.{good-map}
+use Rattle.vouch.proofs.Walks.{head-serves, head-least, after-serves, after-next, after-last}
+use Rattle.vouch.proofs.Meaning.{WriteOk, TrimOk, PruneOk, LookOk, WrittenBefore, Fetched, Walking}
+use Rattle.vouch.proofs.Epochs.{laid-one}
+use Rattle.vouch.specs.Events.{Run}
+
+pub epoch-of : (l : Layout) → mapOf (layOf l) .epoch ≡ l .epoch .0
+unfolding layOf
+epoch-of l = refl
+
+module _ {h : History} {l : Layout} (fetched : Fetched h l) where
+  pub is-good : good (layOf l) ≡ true
+  is-good = value-of-good l (fetched .is-good) .0
+
+  pub map-good : Good (mapOf (layOf l))
+  map-good = good-map (layOf l) is-good
+
+-- ---- a walk
+
+pub walk-start : {h : History} {l : Layout} {p : Pos} (m : Mark) → Fetched h l → p < limit → Walking h l p (headOf (setAt (layOf l) p)) m
+walk-start {l = l} {p} m fetched low = record {
+  fetched = fetched;
+  low = low;
+  serves = head-serves (layOf l) (is-good fetched) p;
+  behind = λ v serves lt. absurd (omega (arith, head-least (layOf l) (is-good fetched) p serves));
+}
+
+-- u and all before it
+upto : {h : History} {l : Layout} {p : Pos} {u : UnitNo} {m : Mark} → Walking h l p u m → MarkedBy h u p m (l .epoch .0) →
+    (v : UnitNo) → Serves (mapOf (layOf l)) p v → v ≤ u → MarkedBy h v p m (l .epoch .0)
+upto {h} {l} {p} {u} {m} walk mk v serves le = go (decLt v u)
+  where
+    go : Dec (v < u) → MarkedBy h v p m (l .epoch .0)
+    go (yes lt) = walk .behind v serves lt
+    go (no ge) = let same : u ≡ v = omega arith in subst (λ w. MarkedBy h w p m (l .epoch .0)) same mk
+
+pub walk-next : {h : History} {l : Layout} {p : Pos} {u : UnitNo} {m : Mark} → Walking h l p u m → MarkedBy h u p m (l .epoch .0) →
+    ¬ (after u (setAt (layOf l) p) ≡ 0) → Walking h l p (after u (setAt (layOf l) p)) m
+walk-next {l = l} {p} {u} walk mk more = record {
+  fetched = walk .fetched;
+  low = walk .low;
+  serves = after-serves (layOf l) (is-good (walk .fetched)) p u more;
+  behind = λ v serves lt. upto walk mk v serves (after-next (layOf l) (is-good (walk .fetched)) p u (walk .serves) serves lt);
+}
+
+pub walk-done : {h : History} {l : Layout} {p : Pos} {u : UnitNo} {m : Mark} → Walking h l p u m → MarkedBy h u p m (l .epoch .0) →
+    after u (setAt (layOf l) p) ≡ 0 → Settled h (mapOf (layOf l)) p m
+unfolding layOf
+walk-done {l = l} {p} {u} walk mk none = record {
+  laid = walk .fetched .laid;
+  all = λ v serves. upto walk mk v serves (after-last (layOf l) (is-good (walk .fetched)) p u (walk .serves) none serves);
+}
+
+-- "written" at a unit that is not the head
+pub written-there : {h : History} {l : Layout} {p : Pos} {u : UnitNo} {X : Page} → Run h → Walking h l p u (page X) → WrittenBefore h u (l .epoch .0) p X →
+    ¬ (u ≡ headOf (setAt (layOf l) p)) → MarkedBy h u p (page X) (l .epoch .0)
+written-there {h} {l} {p} {u} run walk was not-head =
+    let g = is-good (walk .fetched) in
+    let head = headOf (setAt (layOf l) p) in
+    let serves = head-serves (layOf l) g p in
+    let before : Before head u (setAt (layOf l) p) = less-before (map-good (walk .fetched) .set-rises p) serves (walk .serves) (omega (arith, head-least (layOf l) g p (walk .serves), not-head)) in
+    let same : mapOf (layOf l) ≡ was .by = laid-one run (walk .fetched .laid) (was .laid) (omega (arith, epoch-of l, was .epoch-is)) in
+    was .has-it head (subst (λ (L : Map). Before head u (L .set p)) same before)
+
+-- ---- what its requests vouch for
+
+above : {h : History} {l : Layout} {p : Pos} {u : UnitNo} {m : Mark} → Walking h l p u m → (v : UnitNo) → Before v u (setAt (layOf l) p) → MarkedBy h v p m (l .epoch .0)
+above {p = p} walk v before = walk .behind v (before-in before) (before-less (map-good (walk .fetched) .set-rises p) before)
+
+pub write-vouches : {h : History} {l : Layout} {p : Pos} {u : UnitNo} {X : Page} → Walking h l p u (page X) → Noted h (store X) → WriteOk h u (l .epoch .0) p X
+write-vouches {l = l} walk asked = record { by = mapOf (layOf l); laid = walk .fetched .laid; epoch-is = epoch-of l; serves = walk .serves; above = above walk; asked = asked }
+
+pub trim-vouches : {h : History} {l : Layout} {p : Pos} {u : UnitNo} → Walking h l p u gone → Noted h (trimAt p) → TrimOk h u (l .epoch .0) p
+trim-vouches {l = l} walk asked = record { by = mapOf (layOf l); laid = walk .fetched .laid; epoch-is = epoch-of l; serves = walk .serves; above = above walk; asked = asked }
+
+pub look-vouches : {h : History} {l : Layout} {p : Pos} {u : UnitNo} → Fetched h l → Serves (mapOf (layOf l)) p u → LookOk h u (l .epoch .0) p
+look-vouches {l = l} fetched serves = record { by = mapOf (layOf l); laid = fetched .laid; epoch-is = epoch-of l; serves = serves }
+
+pub prune-vouches : {h : History} {l : Layout} {q : Pos} {u : UnitNo} → Fetched h l → Has (mapOf (layOf l)) u →
+    ((v : UnitNo) → Has (mapOf (layOf l)) v → v < u → (p : Pos) → p < q → MarkedBy h v p gone (l .epoch .0)) → Noted h (pruneTo q) → PruneOk h u (l .epoch .0) q
+prune-vouches {l = l} fetched has behind asked = record {
+  by = mapOf (layOf l);
+  laid = fetched .laid;
+  epoch-is = epoch-of l;
+  has = has;
+  above = λ v before. behind v (before-in before) (before-less (map-good fetched .units-rise) before);
+  asked = asked;
+}

@@ -1,0 +1,156 @@
+-- Demand 3's last sentence: "If each set still has a working unit, one undisturbed reorganise that drops the stopped ones makes the page answerable again."
+use Prim.Native.Nat.{ℕ, zero, suc, _+_, _≤_, _<_}
+use mathlib.Core.Path.{_≡_}
+use mathlib.Core.Bool.{Bool, true, false, cond}
+use mathlib.Core.List.{List, [], _∷_}
+use lib.Dec.{eqb}
+use lib.ListN.{length, getD}
+use Rattle.num.specs.Limits.{lastEpoch}
+use Rattle.num.specs.declared.count.Position.{Position}
+use Rattle.layout.specs.declared.value.Layout.{Layout}
+use Rattle.layout.specs.Lay.{Lay, _in?_, unitsOf}
+use Rattle.layout.specs.Value.{layOf, padded}
+use Rattle.layout.specs.Places.{setAt, tailOf}
+use Rattle.layout.specs.Plan.{planned}
+use Rattle.unit.specs.Unit.{readSays, readShows}
+use Rattle.client.specs.declared.message.Page.{Page as PageValue}
+use Rattle.client.specs.declared.state.Work.the-variants.{Append, Read}
+use Rattle.client.specs.declared.state.Stage.the-variants.{Idle}
+use Rattle.client.specs.declared.state.Change.{Change}
+use Rattle.client.specs.declared.state.Job.{Job}
+use Rattle.client.specs.declared.turn.Outcome.{Outcome}
+use Rattle.client.specs.Message.{noPage}
+use Rattle.client.specs.Client.{noChange, jobOf, reorganiseOf, dropLimit, lastNumber}
+use Rattle.yard.specs.declared.state.Step.the-variants.{Begin, Deliver}
+use Rattle.yard.specs.World.{World, isClient, running, clientAt, unitAt}
+use Rattle.yard.specs.Serve.{pageOf}
+use Rattle.yard.specs.Steps.{Done}
+use Rattle.vouch.specs.Words.{Page, Answer}
+use Rattle.vouch.specs.Runs.{Move, Moves, result, world, Returns}
+use Rattle.vouch.specs.Runs.Moves.{_▸_}
+use Rattle.vouch.specs.Demand.{Rightly}
+
+-- ---- a run of steps with no other between
+
+-- the moves one after another, each answered with 0; no operation ends before the last of them, which comes to d
+pub data Goes : World → List Move → Done → Type 0 where
+  ends : {w : World} {m : Move} → result w m .answer ≡ 0 → Goes w (m ∷ []) (result w m)
+  goes : {w : World} {m : Move} {ms : List Move} {d : Done} → result w m .answer ≡ 0 → result w m .who ≡ 0 → Goes (result w m .world) ms d → Goes w (m ∷ ms) d
+
+abbrev pub begin : ℕ → Job → Move
+begin c j = record { does = Begin c; job = j }
+
+-- the letter at place k is delivered once and dropped; where it is a request, its answer is kept
+abbrev pub deliver : ℕ → Move
+deliver k = record { does = Deliver k false true; job = jobOf Append }
+
+-- n requests, each delivered once and dropped, as is its answer: both lie at place k, behind the letters that were there before
+unfoldable pub exchanges : ℕ → ℕ → List Move
+exchanges zero k = []
+exchanges (suc n) k = deliver k ∷ deliver k ∷ exchanges n k
+
+-- ---- the reorganise that drops the stopped units, and a read
+
+-- those of the units from u on that have stopped
+unfoldable pub stoppedFrom : ℕ → List Bool → List ℕ
+stoppedFrom u [] = []
+stoppedFrom u (b ∷ bs) = cond b (u ∷ stoppedFrom (suc u) bs) (stoppedFrom (suc u) bs)
+
+abbrev pub stoppedUnits : World → List ℕ
+stoppedUnits w = stoppedFrom 1 (w .stopped)
+
+-- no new range is asked
+abbrev pub dropStopped : World → Change
+dropStopped w = record { count = length (stoppedUnits w); drops = padded dropLimit 0 (stoppedUnits w); wish = noChange .wish }
+
+-- the new layout: epoch plus 1, the stopped units gone from every set
+abbrev pub newLayout : World → Lay
+newLayout w = planned (layOf (w .held)) (stoppedUnits w) [] 0
+
+-- n, the units in the new layout
+abbrev pub unitCount : World → ℕ
+unitCount w = length (unitsOf (newLayout w .sets))
+
+-- n + 3 requests
+abbrev pub reorganising : World → ℕ → List Move
+reorganising w c = begin c (reorganiseOf (dropStopped w)) ∷ exchanges (unitCount w + 3) (length (w .letters))
+
+-- two requests
+abbrev pub reading : World → ℕ → Position → List Move
+reading w c p = begin c (jobOf (Read p)) ∷ exchanges 2 (length (w .letters))
+
+-- ---- the conditions
+
+pub record WorkingUnit (stopped : List Bool) (us : List ℕ) : Type 0 where
+  pub unit : ℕ
+  pub inside : (unit in? us) ≡ true
+  pub works : running stopped unit ≡ true
+
+-- client c reorganises
+pub record Conditions (w : World) (c : ℕ) : Type 0 where
+  pub is-client : isClient c ≡ true
+  -- "the client is idle"
+  pub is-idle : clientAt w c .stage ≡ Idle
+  -- "at most 31 letters lie in the bag"
+  pub few-letters : length (w .letters) ≤ 31
+  -- "n + 5 of its numbers are unused"
+  pub numbers-left : clientAt w c .used .0 + (unitCount w + 5) ≤ lastNumber
+  -- "the held epoch is below 2^32 - 1"
+  pub epoch-left : w .held .epoch .0 < lastEpoch
+  -- "each set still has a working unit"
+  pub set-works : (k : ℕ) → k < length (layOf (w .held) .sets) → WorkingUnit (w .stopped) (getD (layOf (w .held) .sets) k [])
+
+-- ---- what comes of it
+
+-- the tail of p's set in the new layout
+abbrev pub tailIn : World → ℕ → ℕ
+tailIn w p = tailOf (setAt (newLayout w) p)
+
+-- What the tail has at p, as it was before the reorganise: its answer to a read with the new epoch,
+abbrev pub tailSays : World → ℕ → ℕ
+tailSays w p = readSays (unitAt w (tailIn w p)) (newLayout w .epoch) p
+
+-- and its page, none unless the answer is 0.
+abbrev pub tailShows : World → ℕ → PageValue
+tailShows w p = cond (eqb (tailSays w p) 0) (pageOf (readShows (unitAt w (tailIn w p)) (newLayout w .epoch) p)) noPage
+
+-- a page, trimmed or unwritten: no other answer
+pub data Answering : ℕ → Type 0 where
+  page : Answering 0
+  trimmed : Answering 5
+  unwritten : Answering 7
+
+-- the outcome of a read of p says what the tail has there
+pub record ReadsTail (w : World) (p : Position) (o : Outcome) : Type 0 where
+  pub answers : Answering (o .number)
+  pub number-is : o .number ≡ tailSays w (p .0)
+  pub page-is : o .page ≡ tailShows w (p .0)
+  pub position-is : o .position ≡ p
+  pub epoch-is : o .epoch .0 ≡ newLayout w .epoch
+
+-- The reorganise ends in done with the new layout in force, and a read after it in what the tail has.
+pub record Answerable (w : World) (c : ℕ) (p : Position) : Type 0 where
+  pub reorganised : Done
+  pub reorganise-goes : Goes w (reorganising w c) reorganised
+  pub reorganise-ends : reorganised .who ≡ c
+  pub reorganise-done : reorganised .outcome .number ≡ 0
+  pub in-force : layOf (reorganised .world .held) ≡ newLayout w
+  pub was-read : Done
+  pub read-goes : Goes (reorganised .world) (reading (reorganised .world) c p) was-read
+  pub read-ends : was-read .who ≡ c
+  pub read-tells : ReadsTail w p (was-read .outcome)
+
+-- ---- the page is answerable again
+
+infixl 20 _▸▸_
+-- the moves ms, then these
+unfoldable pub _▸▸_ : Moves → List Move → Moves
+ms ▸▸ [] = ms
+ms ▸▸ (m ∷ rest) = (ms ▸ m) ▸▸ rest
+
+-- Where an append of X at p is done among the moves ms: the read returns X, or "trimmed" if a trim of p or a prune above p was asked for.
+pub record Again (l : Layout) (ms : Moves) (c : ℕ) (p : Position) (X : Page) : Type 0 where
+  pub answerable : Answerable (world l ms) c p
+  pub returned : Answer
+  pub returns : Returns (answerable .was-read .outcome) returned
+  pub rightly : Rightly l (ms ▸▸ reorganising (world l ms) c ▸▸ reading (answerable .reorganised .world) c p) (p .0) X returned

@@ -1,0 +1,33 @@
+-- Entries of a list by their place.
+use Prim.Native.Nat.{ℕ, zero, suc, _-_, _<_, _≤_}
+use mathlib.Core.Bool.{true}
+use mathlib.Core.List.{List, [], _∷_}
+use mathlib.Core.Path.{_≡_, refl, ap}
+use native.Mathlib.Nat.{not-suc-le-zero, le-of-suc-le-suc}
+use native.Mathlib.Omega.{arith}
+use borrow.Author.Tests.{leb-true}
+use lib.Dec.{leb}
+use lib.ListN.{length, getD, set}
+use Rattle.num.proofs.Tests.{and-both}
+use Rattle.yard.specs.World.{isClient}
+
+-- within the list it does not matter what stands past its end
+pub getD-any : {A : Type 0} (xs : List A) (i : ℕ) (d e : A) → i < length xs → getD xs i d ≡ getD xs i e
+getD-any [] i d e h = absurd (not-suc-le-zero h)
+getD-any (x ∷ xs) zero d e h = refl
+getD-any (x ∷ xs) (suc i) d e h = getD-any xs i d e (le-of-suc-le-suc h)
+
+pub set-same : {A : Type 0} (xs : List A) (i : ℕ) (d : A) → set xs i (getD xs i d) ≡ xs
+set-same [] i d = refl
+set-same (x ∷ xs) zero d = refl
+set-same {A} (x ∷ xs) (suc i) d = ap (λ (l : List A). x ∷ l) (set-same xs i d)
+
+-- clients are numbered from 1 to 4
+pub record Numbered (c : ℕ) : Type 0 where
+  pub least : 1 ≤ c
+  pub below : c - 1 < 4
+
+pub numbered : (c : ℕ) → isClient c ≡ true → Numbered c
+numbered c h =
+    let (l, m) = and-both (leb 1 c) (leb c 4) h in
+    record { least = leb-true 1 c l; below = omega (arith, leb-true 1 c l, leb-true c 4 m) }

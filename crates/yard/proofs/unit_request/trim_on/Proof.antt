@@ -1,0 +1,27 @@
+use borrow.Author.Needs.{needs}
+use mathlib.Core.Path.{_≡_, ap, _∙_}
+use Rattle.yard.specs.Serve.{saying, bare}
+use Rattle.client.specs.declared.message.Reply.{Reply}
+use Rattle.yard.proofs.Doing.{trim-does}
+use Rattle.yard.proofs.unit_request.trim_on.Statement.{statement}
+use Rattle.yard.proofs.unit_request.trim_on.Tie as tie
+
+trim-requires : tie.Need-trim-requires
+trim-requires c κs = search needs
+
+saying-requires : tie.Need-saying-requires
+saying-requires c κs = search needs
+
+bare-requires : tie.Need-bare-requires
+bare-requires c κs = search needs
+
+same-length : tie.Need-same-length
+same-length c = search needs
+
+returns : tie.Need-returns
+returns c =
+    let d = trim-does (c .before .before .before .before .before .before .before .args .mem .now) (c .before .before .before .before .before .before .slice-known .given) (c .before .before .before .before .before .before .before .pre) (c .before .before .before .before .trim .ensures) (c .before .before .slice-known2 .given) in
+    record { response-is = c .bare .ensures ∙ ap bare (c .before .saying .ensures ∙ ap saying (d .says)); memory-is = d .becomes }
+
+pub trim-on-spec : {M : Type 1} → statement M
+trim-on-spec = tie.close (tie.spec trim-requires saying-requires bare-requires same-length returns)

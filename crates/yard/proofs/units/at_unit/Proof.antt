@@ -1,0 +1,69 @@
+use borrow.Author.Needs.{needs}
+use Prim.Native.Nat.{_+_, _-_, _*_, _<_, _≤_, ℕ}
+use mathlib.Core.Path.{_≡_, sym, ap, _∙_}
+use lib.Dec.{leb}
+use lib.ListN.{take, drop}
+use native.Mathlib.Omega.{arith}
+use borrow.Author.Tests.{leb-true}
+use Rattle.num.proofs.Tests.{and-both}
+use Rattle.yard.proofs.Memories.{good-long, good-part, unit-part, part-changed}
+use mathlib.Core.List.{List}
+use Rattle.unit.specs.State.{State}
+use Rattle.unit.specs.Unit.{freshUnit}
+use Rattle.yard.specs.Parts.{unitSays, unitAfter}
+use Rattle.yard.proofs.units.at_unit.Statement.{statement}
+use Rattle.yard.proofs.units.at_unit.Tie as tie
+
+below : (s : tie.Start) → s .args .u - 1 < 8
+below s =
+    let (l, h) = and-both (leb 1 (s .args .u)) (leb (s .args .u) 8) (s .pre .1) in
+    omega (arith, leb-true 1 (s .args .u) l, leb-true (s .args .u) 8 h)
+
+start-of-requires : tie.Need-start-of-requires
+start-of-requires c κs = search needs
+
+add-end : tie.Need-add-end
+add-end c = search needs
+
+sub-ask-unit : tie.Need-sub-ask-unit
+sub-ask-unit c = search needs
+
+part-ask-unit-start : tie.Need-part-ask-unit-start
+part-ask-unit-start c = search needs
+
+part-ask-unit-end : tie.Need-part-ask-unit-end
+part-ask-unit-end c = omega (arith, good-long 1 8 (c .before .before .args .units .now) (c .before .before .pre .0), c .start-of .ensures .1)
+
+ask-unit-requires : tie.Need-ask-unit-requires
+ask-unit-requires c κs =
+    let s = c .before .before .before in
+    let e : c .before .start-of .result + 6168 - c .before .start-of .result ≡ 6168 = omega arith in
+    rw (e, c .before .start-of .ensures .0) (good-part 1 8 (s .args .units .now) (s .args .u - 1) (s .pre .0) (below s))
+
+same-length : tie.Need-same-length
+same-length c = search needs
+
+returns : tie.Need-returns
+returns c =
+    let s = c .before .before .before .before .before .before in
+    let m : List ℕ = s .args .units .now in
+    let k : ℕ = s .args .u - 1 in
+    let e : c .before .before .before .before .start-of .result + 6168 - c .before .before .before .before .start-of .result ≡ 6168 = omega arith in
+    let d = rw (e, c .before .before .before .before .start-of .ensures .0, ← unit-part 8 m k (freshUnit (s .args .u)) (below s)) at (c .before .before .ask-unit .ensures) in
+    record {
+      response-is = d .response-is;
+      memories-is = rw (e, c .before .before .before .before .start-of .ensures .0, d .memory-is) (part-changed 1 8 m k _ (c .before .before .before .before .before .slice-known .given) (s .pre .0) (below s));
+    }
+
+pub at-unit-spec : {M : Type 1} → statement M
+at-unit-spec =
+    tie.close
+    (tie.spec
+    start-of-requires
+    add-end
+    sub-ask-unit
+    part-ask-unit-start
+    part-ask-unit-end
+    ask-unit-requires
+    same-length
+    returns)

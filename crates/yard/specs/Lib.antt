@@ -1,0 +1,7 @@
+pub mod World
+pub mod Bag
+pub mod Serve
+pub mod Steps
+pub mod Lent
+pub mod Fresh
+pub mod Parts

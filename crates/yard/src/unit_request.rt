@@ -1,0 +1,167 @@
+// A request at a unit, over its good memory.
+ghost use mathlib.Core.Path.{_≡_};
+ghost use mathlib.Core.Bool.{true};
+ghost use Prim.Native.Nat.{_≤_};
+ghost use lib.ListN.{length, take};
+ghost use Rattle.layout.specs.Value.{padded};
+ghost use Rattle.unit.specs.Shape.{small};
+ghost use Rattle.unit.specs.Memory.{decode, encode, good as goodMemory};
+ghost use Rattle.unit.specs.Unit.{writeSays, writeUnit, trimSays, trimUnit, pruneSays, pruneUnit, sealUnit};
+ghost use Rattle.yard.specs.Serve.{saying, bare, kindOf, bytesOf, shown, edgeOr, edged};
+ghost use Rattle.yard.specs.Parts.{OnUnit, unitSays, unitAfter};
+use client::message::Ask;
+use client::message::Page;
+use client::message::Reply;
+use client::message::Response;
+use layout::value::Layout;
+use num::bytes::size;
+use num::count::Epoch;
+use num::count::Position;
+use unit::prune::prune;
+use unit::read::payload;
+use unit::read::read;
+use unit::seal::seal;
+use unit::trim::trim;
+use unit::write::write;
+
+// Fine, or a refusal with its number.
+pub(crate) fn saying(number: u8) -> Reply
+    ensures { λ r. ⌜ r ≡ saying number ⌝ }
+{
+    if number == 0 {
+        Reply::Fine
+    } else {
+        Reply::Refused(number)
+    }
+}
+
+// An answer with no page and no layout.
+pub(crate) fn bare(reply: Reply) -> Response
+    ensures { λ r. ⌜ r ≡ bare reply ⌝ }
+{
+    let page = Page::blank();
+    let layout = Layout::blank();
+    Response {
+        reply,
+        page,
+        layout,
+    }
+}
+
+// The kind of the page that a letter carries; one that no unit takes where the page is too long.
+fn kind_of(page: Page) -> u8
+    ensures { λ r. ⌜ r ≡ kindOf page ⌝ }
+{
+    if page.len <= 32 { page.kind } else { 0 }
+}
+
+// How many of its bytes are offered.
+fn len_of(page: Page) -> usize
+    ensures { λ r. ⌜ (r ≤ 32) × (take r (page .bytes) ≡ bytesOf page) ⌝ }
+{
+    if page.len <= 32 { size(page.len) } else { 0 }
+}
+
+// The bytes in a page's array, and zeros behind them.
+fn padded_to(bytes: &[u8]) -> [u8; 32]
+    requires { ⌜ length (now bytes) ≤ 32 ⌝ }
+    ensures { λ r. ⌜ r ≡ padded 32 0 (now (bytes .entry)) ⌝ }
+{
+    let mut out = [0u8; 32];
+    let mut i = 0;
+    while i < bytes.len() {
+        out[i] = bytes[i];
+        i += 1;
+    }
+    out
+}
+
+fn write_on(mem: &mut [u8], epoch: Epoch, p: Position, page: Page) -> Response
+    requires { ⌜ goodMemory small (now mem) ≡ true ⌝ }
+    ensures { λ r. ⌜ OnUnit
+        (bare (saying (writeSays small (decode small (now (mem .entry))) (epoch .0) (p .0) (kindOf page) (bytesOf page))))
+        (writeUnit small (decode small (now (mem .entry))) (epoch .0) (p .0) (kindOf page) (bytesOf page)) r (now (mem .exit)) ⌝ }
+{
+    let bytes = page.bytes;
+    let kind = kind_of(page);
+    let len = len_of(page);
+    let number = write(mem, epoch, p, kind, &bytes[..len]);
+    bare(saying(number))
+}
+
+fn trim_on(mem: &mut [u8], epoch: Epoch, p: Position) -> Response
+    requires { ⌜ goodMemory small (now mem) ≡ true ⌝ }
+    ensures { λ r. ⌜ OnUnit (bare (saying (trimSays small (decode small (now (mem .entry))) (epoch .0) (p .0)))) (trimUnit small (decode small (now (mem .entry))) (epoch .0) (p .0)) r (now (mem .exit)) ⌝ }
+{
+    let number = trim(mem, epoch, p);
+    bare(saying(number))
+}
+
+fn prune_on(mem: &mut [u8], epoch: Epoch, p: Position) -> Response
+    requires { ⌜ goodMemory small (now mem) ≡ true ⌝ }
+    ensures { λ r. ⌜ OnUnit (bare (saying (pruneSays (decode small (now (mem .entry))) (epoch .0) (p .0)))) (pruneUnit (decode small (now (mem .entry))) (epoch .0) (p .0)) r (now (mem .exit)) ⌝ }
+{
+    let number = prune(mem, epoch, p);
+    bare(saying(number))
+}
+
+// The edge, or a refusal.
+fn edge_or(answer: u8, edge: u64) -> Reply
+    ensures { λ r. ⌜ r ≡ edgeOr answer edge ⌝ }
+{
+    if answer == 0 {
+        Reply::Edge(Position(edge))
+    } else {
+        Reply::Refused(answer)
+    }
+}
+
+fn seal_on(mem: &mut [u8], epoch: Epoch) -> Response
+    requires { ⌜ goodMemory small (now mem) ≡ true ⌝ }
+    ensures { λ r. ⌜ OnUnit (bare (edged (decode small (now (mem .entry))) (epoch .0))) (sealUnit (decode small (now (mem .entry))) (epoch .0)) r (now (mem .exit)) ⌝ }
+{
+    let sealed = seal(mem, epoch);
+    bare(edge_or(sealed.answer, sealed.edge))
+}
+
+// The page of a position, or a refusal.
+fn read_on(mem: &[u8], epoch: Epoch, p: Position) -> Response
+    requires { ⌜ goodMemory small (now mem) ≡ true ⌝ }
+    ensures { λ r. ⌜ r ≡ shown (decode small (now (mem .entry))) (epoch .0) (p .0) ⌝ }
+{
+    let seen = read(mem, epoch, p);
+    if seen.answer != 0 {
+        return bare(Reply::Refused(seen.answer));
+    }
+    let part = payload(mem, epoch, p);
+    let bytes = padded_to(part);
+    let page = Page {
+        kind: seen.kind,
+        len: part.len() as u8,
+        bytes,
+    };
+    let layout = Layout::blank();
+    Response {
+        reply: Reply::Shown,
+        page,
+        layout,
+    }
+}
+
+// Whatever a unit is asked.
+pub(crate) fn ask_unit(mem: &mut [u8], ask: Ask, page: Page) -> Response
+    requires { ⌜ goodMemory small (now mem) ≡ true ⌝ }
+    ensures { λ r. ⌜ OnUnit (unitSays (decode small (now (mem .entry))) ask page) (unitAfter (decode small (now (mem .entry))) ask page) r (now (mem .exit)) ⌝ }
+{
+    match ask {
+        Ask::Write(_, epoch, p) => write_on(mem, epoch, p, page),
+        Ask::Read(_, epoch, p) => read_on(mem, epoch, p),
+        Ask::Trim(_, epoch, p) => trim_on(mem, epoch, p),
+        Ask::Prune(_, epoch, p) => prune_on(mem, epoch, p),
+        Ask::Seal(_, epoch) => seal_on(mem, epoch),
+        Ask::Fetch => Response::blank(),
+        Ask::Token(_) => Response::blank(),
+        Ask::Offer => Response::blank(),
+        Ask::Start(_, _) => Response::blank(),
+    }
+}
