@@ -1,11 +1,12 @@
-//! The proved unit and an independent reading of its rules, side by side.
+//! The proved unit and layouts, and an independent reading of their rules, side by side.
 //!
 //! `unit` and `memory` are the reading: a map of pages by position, and its bytes. `reading` makes a call on it, `proved`
 //! makes the same call on the library, and `compare` holds all that a caller can see after the one to that after the
-//! other. `weather` makes up the calls and `run` makes thousands of them in a row.
+//! other. `weather` makes up the calls and `run` makes thousands of them in a row. `layouts` has the same for layouts.
 
 pub mod call;
 pub mod compare;
+pub mod layouts;
 pub mod library;
 pub mod memory;
 pub mod proved;

@@ -1,0 +1,3 @@
+pub mod Telling
+pub mod Wishes
+pub mod Making

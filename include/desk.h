@@ -1,0 +1,59 @@
+/*
+ * desk.h: layouts of the shared log, for tests on a desk.
+ *
+ * Link with libdesk.a, which `rt staticlib desk` writes to target/staticlib. Nothing is kept between calls. Every call answers
+ * one number of enum desk_answer. A call that answers anything but DESK_ANSWER_FINE has changed nothing: no byte of out, and
+ * *set and *written keep what they held.
+ *
+ * A layout is its bytes: epoch (4, little-endian), then units, sets and ranges, each section after its one-byte count. No pointer
+ * may be NULL, also where its length is 0, and what is written lies apart from all else.
+ */
+#ifndef DESK_H
+#define DESK_H
+
+#include <stddef.h>
+#include <stdint.h>
+
+#ifdef __cplusplus
+extern "C" {
+#endif
+
+/* The bytes of the largest layout: room enough for every plan. */
+#define DESK_LAYOUT 167
+
+enum desk_answer {
+    DESK_ANSWER_FINE = 0,
+    DESK_ANSWER_POSITION = 2,      /* the position is 2^40 or more */
+    DESK_ANSWER_SPENT = 9,         /* the new range would start at 2^40 */
+    DESK_ANSWER_LAYOUT = 10,       /* a layout, the new sets or a unit to drop not good; out too short for the new layout */
+    DESK_ANSWER_OVERTAKEN = 11,    /* the offered epoch is not the held one plus 1 */
+    DESK_ANSWER_SUCCESSOR = 12,    /* not a lawful successor */
+    DESK_ANSWER_SET_LOST = 13,     /* dropping would empty a set */
+    DESK_ANSWER_LAYOUT_FULL = 14,  /* more than 16 sets or 8 ranges */
+    DESK_ANSWER_EPOCHS_SPENT = 15  /* the held epoch is 2^32 - 1 */
+};
+
+/* Whether these are the bytes of a good layout. Answers: FINE, LAYOUT. */
+uint8_t layout_good(const uint8_t *bytes, size_t len);
+
+/* *set is the number of the position's set, counted from 0. Answers: POSITION, LAYOUT, FINE. */
+uint8_t layout_set(const uint8_t *bytes, size_t len, uint64_t position, uint64_t *set);
+
+/* What the holder of the one layout would answer to the offer of the other. Answers: LAYOUT, OVERTAKEN, SUCCESSOR, FINE. */
+uint8_t layout_offer(const uint8_t *held, size_t held_len, const uint8_t *offered, size_t len);
+
+/*
+ * What a reorganise would offer: the layout's bytes stand at the front of out, *written of them. drops: units, a byte each.
+ * sets: a count and then that many sets as in a layout; with no bytes at all, or a count of 0, there is no new range. edge: the
+ * largest edge that the seals answered; the new range starts there or above the last start.
+ * Answers, the first that applies: LAYOUT (held), EPOCHS_SPENT, LAYOUT (sets, drops), SET_LOST, LAYOUT_FULL, SPENT, LAYOUT (out
+ * too short), FINE.
+ */
+uint8_t layout_plan(const uint8_t *held, size_t held_len, const uint8_t *drops, size_t drops_len, const uint8_t *sets,
+                    size_t sets_len, uint64_t edge, uint8_t *out, size_t out_len, uint64_t *written);
+
+#ifdef __cplusplus
+}
+#endif
+
+#endif
