@@ -1,6 +1,8 @@
 // Layouts for tests on a desk: numbers and byte slices. A slice is a pointer and then a length.
 ghost use Rattle.desk.specs.Told.{IsGoodTold, IsSetTold, IsOfferTold, IsPlanTold};
+
 mod made;
+
 use layout::holder::offer;
 use layout::place::set_of;
 use layout::read::read_layout;

@@ -70,7 +70,11 @@ pub(crate) fn make(held: Layout, drops: &[u8], sets: &[u8], edge: u64) -> Made
     let started = with_start(next, Position(edge));
     let layout = started.layout;
     Made {
-        answer: pick(planned.answer == Answer::FINE, started.answer, planned.answer),
+        answer: pick(
+            planned.answer == Answer::FINE,
+            started.answer,
+            planned.answer,
+        ),
         layout,
     }
 }
