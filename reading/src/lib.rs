@@ -1,0 +1,37 @@
+//! A second reading of the paper: units, holder, sequencer, clients and the yard, in plain Rust.
+//! It shares no code and no types with the proved machines; docs/RUNS.md says how runs of both are compared.
+
+pub mod no;
+
+pub mod memory;
+pub mod unit;
+
+pub mod layout;
+pub mod layout_bytes;
+pub mod plan;
+pub mod successor;
+
+pub mod sequencer;
+
+pub mod client;
+pub mod letter;
+pub mod operation;
+
+pub mod lent;
+pub mod shortcut;
+pub mod yard;
+
+pub mod audit;
+pub mod demand;
+pub mod invariant;
+pub mod last_sentence;
+
+pub mod draw_job;
+pub mod draw_step;
+pub mod lehmer;
+pub mod mood;
+
+pub mod census;
+pub mod digest;
+pub mod print;
+pub mod run;

@@ -1,0 +1,86 @@
+//! Unit memory: 6,168 bytes, little-endian.
+
+use crate::layout::UNITS;
+use crate::no::{self, unless, No, LIMIT};
+use crate::unit::{Cell, Page, Unit};
+use std::collections::BTreeMap;
+
+pub const HEADER: usize = 24;
+pub const SLOT: usize = 48;
+pub const SIZE: usize = HEADER + Unit::SLOTS * SLOT;
+
+/// A fresh unit's memory in a buffer of this length.
+pub fn fresh(length: usize, number: u8) -> Result<Vec<u8>, No> {
+    unless(length != SIZE, no::MEMORY)?;
+    unless(!(1..=UNITS).contains(&number), no::NOBODY)?;
+    Ok(encode(&Unit::fresh(number)))
+}
+
+/// The bytes of a unit's memory.
+pub fn encode(unit: &Unit) -> Vec<u8> {
+    let mut memory = Vec::with_capacity(SIZE);
+    memory.extend(u32::from(unit.number).to_le_bytes());
+    memory.extend(unit.sealed.to_le_bytes());
+    memory.extend(unit.floor.to_le_bytes());
+    memory.extend((unit.cells.len() as u16).to_le_bytes());
+    memory.extend([0; 6]);
+    for (position, cell) in &unit.cells {
+        let (kind, payload): (u8, &[u8]) = match cell {
+            Cell::Holds(page) => (page.kind(), page.bytes()),
+            Cell::Trimmed => (3, &[]),
+        };
+        memory.extend(position.to_le_bytes());
+        memory.extend([kind, payload.len() as u8, 0, 0, 0, 0, 0, 0]);
+        memory.extend(payload);
+        memory.resize(memory.len() + Page::BYTES - payload.len(), 0);
+    }
+    memory.resize(SIZE, 0);
+    memory
+}
+
+fn number(bytes: &[u8]) -> u64 {
+    bytes.iter().rev().fold(0, |n, b| n * 256 + u64::from(*b))
+}
+
+fn all_zero(bytes: &[u8]) -> bool {
+    bytes.iter().all(|b| *b == 0)
+}
+
+/// One used slot: none where it is not good by itself.
+fn slot(bytes: &[u8]) -> Option<(u64, Cell)> {
+    let (position, kind, length) = (number(&bytes[..8]), bytes[8], usize::from(bytes[9]));
+    let payload = &bytes[16..];
+    if position >= LIMIT || length > Page::BYTES || !all_zero(&bytes[10..16]) || !all_zero(&payload[length..]) {
+        return None;
+    }
+    match kind {
+        1 => Some((position, Cell::Holds(Page::Data(payload[..length].to_vec())))),
+        2 if length == 0 => Some((position, Cell::Holds(Page::Junk))),
+        3 if length == 0 => Some((position, Cell::Trimmed)),
+        _ => None,
+    }
+}
+
+/// The unit of a good memory; none where the memory is not good.
+pub fn decode(memory: &[u8]) -> Option<Unit> {
+    if memory.len() != SIZE {
+        return None;
+    }
+    let (header, slots) = memory.split_at(HEADER);
+    let (unit, floor, count) = (number(&header[..4]), number(&header[8..16]), number(&header[16..18]) as usize);
+    if !(1..=u64::from(UNITS)).contains(&unit) || floor > LIMIT || count > Unit::SLOTS || !all_zero(&header[18..]) {
+        return None;
+    }
+    let (used, unused) = slots.split_at(count * SLOT);
+    let mut cells = BTreeMap::new();
+    let mut lowest = floor;
+    for bytes in used.chunks(SLOT) {
+        let (position, cell) = slot(bytes)?;
+        if position < lowest {
+            return None;
+        }
+        lowest = position + 1;
+        cells.insert(position, cell);
+    }
+    all_zero(unused).then(|| Unit { number: unit as u8, sealed: number(&header[4..8]) as u32, floor, cells })
+}
