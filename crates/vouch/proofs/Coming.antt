@@ -36,7 +36,7 @@ use Rattle.vouch.proofs.Stepping.{step-ok}
 
 -- ---- a fresh yard
 
-fresh-unit : (n k i : ℕ) → getD (freshUnits k n) i (freshUnit (k + i)) ≡ freshUnit (k + i)
+pub fresh-unit : (n k i : ℕ) → getD (freshUnits k n) i (freshUnit (k + i)) ≡ freshUnit (k + i)
 unfolding freshUnits
 fresh-unit zero k i = refl
 fresh-unit (suc n) k zero = ap freshUnit (omega arith)

@@ -140,5 +140,5 @@ module _ {h₁ h₂ : History} (run : Run h₂) (part : h₁ ⊑ h₂) where
     plan-is = ok .plan-is;
     behind = λ v has lt. seal-stays run part (ok .behind v has lt);
   }
-  stage-on c (Offering p) ok = record { is-reorganise = ok .is-reorganise; offer = offer-on (ok .offer) }
-  stage-on c Starting ok = record { is-reorganise = ok .is-reorganise; low = omega (arith, held-later run part, ok .low) }
+  stage-on c (Offering p) ok = record { is-reorganise = ok .is-reorganise; fetched = fetched-on (ok .fetched); offer = offer-on (ok .offer) }
+  stage-on c Starting ok = record { is-reorganise = ok .is-reorganise; fetched = fetched-on (ok .fetched); low = omega (arith, held-later run part, ok .low) }

@@ -44,6 +44,8 @@ pub mod Taking
 pub mod Ending
 pub mod Demand
 pub mod RunExample
+pub mod Numbered
+pub mod Lending
 pub mod Exchange
 pub mod Beginning
 pub mod Reread

@@ -204,12 +204,14 @@ pub record SealingOk (h : History) (w : Work) (l : Layout) (ch : Change) (plan :
   pub plan-is : plan ≡ plannedFor l (dropsOf ch) (ch .wish) .layout
   pub behind : (v : UnitNo) → Has (mapOf (layOf plan)) v → v < u → SealAnswer h v (l .epoch .0) x
 
-pub record OfferingOk (h : History) (w : Work) (plan : Layout) : Type 0 where
+pub record OfferingOk (h : History) (w : Work) (l plan : Layout) : Type 0 where
   pub is-reorganise : w ≡ work.Reorganise
+  pub fetched : Fetched h l
   pub offer : OfferOk h plan
 
-pub record StartingOk (h : History) (w : Work) (plan : Layout) : Type 0 where
+pub record StartingOk (h : History) (w : Work) (l plan : Layout) : Type 0 where
   pub is-reorganise : w ≡ work.Reorganise
+  pub fetched : Fetched h l
   pub low : plan .epoch .0 ≤ held h .epoch
 
 abbrev pub StageOk : History → Client → Stage → Type 0
@@ -223,8 +225,8 @@ StageOk h c (Looking u) = LookingOk h (c .work) (c .layout) (c .position .0) u
 StageOk h c (Trimming u) = TrimmingOk h (c .work) (c .layout) (c .position .0) u
 StageOk h c (Pruning u) = PruningOk h (c .work) (c .layout) (c .position .0) u
 StageOk h c (Sealing u x) = SealingOk h (c .work) (c .layout) (c .change) (c .plan) u (x .0)
-StageOk h c (Offering p) = OfferingOk h (c .work) (c .plan)
-StageOk h c Starting = StartingOk h (c .work) (c .plan)
+StageOk h c (Offering p) = OfferingOk h (c .work) (c .layout) (c .plan)
+StageOk h c Starting = StartingOk h (c .work) (c .layout) (c .plan)
 
 -- the request that a client waits for: by its layout l, position p, page x and plan
 pub data Waits (l : Layout) (p : Position) (x : PageValue) (plan : Layout) : Stage → Ask → PageValue → Layout → Type 0 where

@@ -81,7 +81,7 @@ module _ {h : History} (run : Run h) (b c : Client) (life : c .life ≡ b .life)
       go true e =
           let ok = offer (eqb-true (startedAt (c .plan) (x .0) .answer) 0 e) in
           sends-ok (inStage (planning c (startFor c x .layout)) (Offering (startFor c x .first))) (offering (startFor c x .layout)) life used refl
-          (record { is-reorganise = plans .is; offer = ok }) waits-offer (offer-ok ok)
+          (record { is-reorganise = plans .is; fetched = plans .fetched; offer = ok }) waits-offer (offer-ok ok)
       go false e = quiet (startedAt (c .plan) (x .0) .answer)
 
   -- all units of the plan up to u have answered
@@ -144,11 +144,11 @@ module _ {h : History} (run : Run h) (c : Client) where
     unfolding onSealed
     seal-refused k = otherwise-ok k (λ not-fine. other-quiet (is-reorganise (ok .is-reorganise)))
 
-  module _ (p : Position) (ok : OfferingOk h (c .work) (c .plan)) where
+  module _ (p : Position) (ok : OfferingOk h (c .work) (c .layout) (c .plan)) where
     pub offer-fine : c .plan .epoch .0 ≤ held h .epoch → TurnOk h c (onOffered c p Fine)
     unfolding onOffered starts inStage
     offer-fine low =
-        sends-ok (inStage c Starting) (plain (ask.Start (c .plan .epoch) p)) refl refl refl (record { is-reorganise = ok .is-reorganise; low = low })
+        sends-ok (inStage c Starting) (plain (ask.Start (c .plan .epoch) p)) refl refl refl (record { is-reorganise = ok .is-reorganise; fetched = ok .fetched; low = low })
         waits-start (start-ok {e = c .plan .epoch} low)
 
     pub offer-refused : (k : ℕ) → TurnOk h c (onOffered c p (Refused k))
@@ -156,7 +156,7 @@ module _ {h : History} (run : Run h) (c : Client) where
     offer-refused k = otherwise-ok k (λ not-fine. other-quiet (is-reorganise (ok .is-reorganise)))
 
   -- whatever the sequencer says
-  pub started : (a : Reply) → StartingOk h (c .work) (c .plan) → TurnOk h c (onStarted c a)
+  pub started : (a : Reply) → StartingOk h (c .work) (c .layout) (c .plan) → TurnOk h c (onStarted c a)
   unfolding onStarted notStarted
   started a ok = go a
     where

@@ -1,4 +1,4 @@
--- Demand 3, layer 1: the history of a shared log. What a reader must believe, top to bottom; the laws are in proofs/.
+-- Demand 3. What a reader must believe, top to bottom: the history (Words to Safety), and the yard's runs (Layouts to Demand). The laws are in proofs/.
 pub mod Words
 pub mod Maps
 pub mod History
@@ -9,4 +9,5 @@ pub mod Layouts
 pub mod Pages
 pub mod Runs
 pub mod Demand
+pub mod Lending
 pub mod LastSentence
