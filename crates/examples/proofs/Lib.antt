@@ -2,5 +2,6 @@
 pub mod Units
 pub mod Passing
 pub mod Telling
+pub mod Laying
 pub mod Reading
 pub mod Running

@@ -13,9 +13,16 @@ use Rattle.unit.specs.Shape.{small}
 use Rattle.unit.specs.State.{State, lookup, insert, keepFrom, retire, edge, lastEnd}
 use Rattle.unit.specs.Memory.{encode, valid, validSlots}
 use Rattle.unit.specs.Unit.{freshUnit, writeSays, written, writeUnit, readSays, readShows, trimSays, retired, trimmedAt, trimUnit, pruneSays, pruned, prunedTo, pruneUnit, sealSays, sealTells, sealedAt, sealUnit}
+use Rattle.num.specs.Bytes.{numberAt, le, leBytes}
+use Rattle.layout.specs.Lay.{rising, goodSet, goodSets, goodSpans, firstAtZero, used, good, _in?_, inSets, usedFrom, unitsOf}
+use Rattle.layout.specs.Value.{padded, layOf, valueOf, zeros, tidyChain, tidyChains, blankRanges, tidy, goodValue}
+use Rattle.layout.specs.Codec.{setsBytes, spansBytes, setsAt, pastSets, spansAt, decode, encode as encode-bytes, same, isLayout, readLayout}
+use Rattle.layout.specs.Places.{placed, setNumber, placeAnswer, placedAt}
+use Rattle.layout.specs.Plan.{without, badDrops, emptied, goodChains, planned, reorganiseAnswer, plannedFor}
 use Rattle.unit.proofs.Freshness.{fresh-fine, fresh-made}
 use Rattle.examples.specs.declared.ask.Row.{Row}
 use Rattle.examples.specs.declared.ask.Told.{Told}
+use Rattle.examples.specs.Lays.{placeTold, dropTold}
 use Rattle.examples.specs.Asks.{toldOf, leftBy}
 use Rattle.examples.specs.Table.{rows}
 use Rattle.examples.specs.Marked.{blank, after, sameTold, Marked}
@@ -62,7 +69,7 @@ tail (r ∷ rs) = rs
 
 -- the test, computed: every row but the first, which makes the unit 1
 all : passes (freshUnit 1) (tail rows) ≡ true
-unfolding passes rows sure tells next filled valid validSlots lookup insert keepFrom retire lastEnd edge writeSays written writeUnit readSays readShows trimSays retired trimmedAt trimUnit pruneSays pruned prunedTo pruneUnit sealSays sealTells sealedAt sealUnit
+unfolding passes rows sure tells next filled valid validSlots lookup insert keepFrom retire lastEnd edge writeSays written writeUnit readSays readShows trimSays retired trimmedAt trimUnit pruneSays pruned prunedTo pruneUnit sealSays sealTells sealedAt sealUnit placeTold dropTold numberAt le leBytes rising goodSet goodSets goodSpans firstAtZero used good _in?_ inSets usedFrom unitsOf padded layOf valueOf zeros tidyChain tidyChains blankRanges tidy goodValue setsBytes spansBytes encode-bytes setsAt pastSets spansAt decode same isLayout readLayout placed setNumber placeAnswer placedAt without badDrops emptied goodChains planned reorganiseAnswer plannedFor
 all = refl
 
 -- THE MARKED EXAMPLES HOLD

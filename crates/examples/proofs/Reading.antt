@@ -6,7 +6,7 @@ use native.Mathlib.Nat.{le-of-suc-le-suc, not-suc-le-zero}
 use lib.ListN.{length, getD}
 use Rattle.examples.specs.declared.ask.Ask.{Ask}
 use Rattle.examples.specs.declared.ask.Row.{Row}
-use Rattle.examples.specs.Asks.{told}
+use Rattle.examples.specs.Lays.{told}
 use Rattle.examples.specs.Table.{rows, count}
 use Rattle.examples.specs.Numbers.{numbersOf, askOf}
 use Rattle.examples.specs.Marked.{blank}

@@ -9,9 +9,10 @@ use Rattle.num.specs.Bytes.{numberAt}
 use Rattle.num.specs.declared.count.Epoch.{Epoch}
 use Rattle.num.specs.declared.count.Position.{Position}
 use Rattle.unit.specs.Promises.{IsFresh, IsRead, IsWritten, IsTrimmed, IsPruned, IsSealed}
-use Rattle.examples.specs.declared.ask.Ask.the-variants.{Fresh, Write, Read, Trim, Prune, Seal, Fill, Floor}
+use Rattle.examples.specs.declared.ask.Ask.the-variants.{Fresh, Write, Read, Trim, Prune, Seal, Fill, Floor, Place, Drop}
 use Rattle.examples.specs.declared.ask.Told.{Told}
-use Rattle.examples.specs.Asks.{told, sevens, fillMemory, fillAnswer, toldOf, leftBy, IsTold, IsFilled}
+use Rattle.examples.specs.Lays.{told, placeTold, dropTold}
+use Rattle.examples.specs.Asks.{sevens, fillMemory, fillAnswer, toldOf, leftBy, IsTold, IsFilled}
 
 pub told-eq : {a a′ b b′ c c′ : ℕ} → a ≡ a′ → b ≡ b′ → c ≡ c′ → told a b c ≡ told a′ b′ c′
 told-eq p q r = rw (p, q, r)
@@ -55,6 +56,15 @@ filled-more {m} {p = p} f w e =
 pub floor-told : {m : List ℕ} {t : Told} → t ≡ told 0 (numberAt 8 8 m) 0 → IsTold m Floor t m
 unfolding toldOf leftBy
 floor-told e = record { told-is = e; memory-is = refl }
+
+-- what is asked of a layout leaves the memory alone
+pub place-told : {m : List ℕ} {p : Position} {t : Told} → t ≡ placeTold (p .0) → IsTold m (Place p) t m
+unfolding toldOf leftBy
+place-told e = record { told-is = e; memory-is = refl }
+
+pub drop-told : {m : List ℕ} {a b k : ℕ} {t : Told} → t ≡ dropTold a b k → IsTold m (Drop a b k) t m
+unfolding toldOf leftBy
+drop-told e = record { told-is = e; memory-is = refl }
 
 pub read-told : {m : List ℕ} {e : Epoch} {p : Position} {answer kind start size a k : ℕ} → IsRead m (e .0) (p .0) answer kind start size
     → a ≡ answer → k ≡ kind → IsTold m (Read e p) (told a k size) m

@@ -18,9 +18,10 @@ use Rattle.unit.specs.Rules.{freshAnswer, freshMemory, readAnswer, readPage, wr
 use Rattle.unit.proofs.Goodness.{is-good}
 use Rattle.unit.proofs.Holding.{Holds, small-room, encode-holds, write-says, read-says, read-shows, trim-says, prune-says, seal-says, seal-tells}
 use Rattle.examples.specs.declared.ask.Ask.{Ask}
-use Rattle.examples.specs.declared.ask.Ask.the-variants.{Fresh, Write, Read, Trim, Prune, Seal, Fill, Floor}
+use Rattle.examples.specs.declared.ask.Ask.the-variants.{Fresh, Write, Read, Trim, Prune, Seal, Fill, Floor, Place, Drop}
 use Rattle.examples.specs.declared.ask.Told.{Told}
-use Rattle.examples.specs.Asks.{told, sevens, fillMemory, fillAnswer, toldOf, leftBy}
+use Rattle.examples.specs.Lays.{told, placeTold, dropTold}
+use Rattle.examples.specs.Asks.{sevens, fillMemory, fillAnswer, toldOf, leftBy}
 
 abbrev freshNumber : ℕ → ℕ
 freshNumber n = lowest (17 if not (leb 1 n && leb n unitLimit) ∷ [])
@@ -51,6 +52,8 @@ tells u (Prune e p) = told (pruneSays u (e .0) (p .0)) 0 0
 tells u (Seal n) = told (sealSays u (n .0)) (sealTells u (n .0)) 0
 tells u (Fill n) = told (filled u n .number) 0 0
 tells u Floor = told 0 (u .floor) 0
+tells u (Place p) = placeTold (p .0)
+tells u (Drop a b k) = dropTold a b k
 
 unfoldable pub next : State → Ask → State
 next u (Fresh n) = cond (eqb (freshNumber n) 0) (freshUnit n) u
@@ -61,6 +64,8 @@ next u (Prune e p) = pruneUnit u (e .0) (p .0)
 next u (Seal n) = sealUnit u (n .0)
 next u (Fill n) = filled u n .unit
 next u Floor = u
+next u (Place p) = u
+next u (Drop a b k) = u
 
 -- what the law asks of a row beside a valid unit: a run of writes is valid on its way too
 unfoldable pub sure : State → Ask → Bool
@@ -72,6 +77,8 @@ sure u (Prune e p) = true
 sure u (Seal n) = true
 sure u (Fill n) = filled u n .all-valid
 sure u Floor = true
+sure u (Place p) = true
+sure u (Drop a b k) = true
 
 -- ---- the rules on the memory of a valid unit
 
@@ -135,6 +142,8 @@ tells-right u h (Prune e p) s = rw (prune-says small small-room (held u h) (e .0
 tells-right u h (Seal n) s = rw (seal-says small small-room (held u h) (n .0), seal-tells small small-room (held u h) (n .0))
 tells-right u h (Fill n) s = rw (fill-unit u n s .1)
 tells-right u h Floor s = rw (floor-bytes u h)
+tells-right u h (Place p) s = refl
+tells-right u h (Drop a b k) s = refl
 
 pub leaves-next : (u : State) → valid small u ≡ true → (a : Ask) → sure u a ≡ true → leftBy (encode small u) a ≡ encode small (next u a)
 unfolding leftBy next sure
@@ -146,3 +155,5 @@ leaves-next u h (Prune e p) s = prune-unit u h (e .0) (p .0)
 leaves-next u h (Seal n) s = seal-unit u h (n .0)
 leaves-next u h (Fill n) s = fill-unit u n s .0
 leaves-next u h Floor s = refl
+leaves-next u h (Place p) s = refl
+leaves-next u h (Drop a b k) s = refl

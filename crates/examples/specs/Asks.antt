@@ -1,4 +1,4 @@
--- What the rules of a unit answer to what a row asks of a memory m, and the memory that they leave.
+-- What the rules answer to what a row asks, a unit's of a memory m, and the memory that they leave.
 use Prim.Native.Nat.{ℕ, zero, suc, min}
 use mathlib.Core.Bool.{cond}
 use mathlib.Core.List.{List, []}
@@ -9,11 +9,9 @@ use Rattle.num.specs.Bytes.{numberAt}
 use Rattle.unit.specs.Shape.{small}
 use Rattle.unit.specs.Rules.{freshAnswer, freshMemory, readAnswer, readPage, writeAnswer, writeMemory, trimAnswer, trimMemory, pruneAnswer, pruneMemory, sealAnswer, sealEdge, sealMemory}
 use Rattle.examples.specs.declared.ask.Ask.{Ask}
-use Rattle.examples.specs.declared.ask.Ask.the-variants.{Fresh, Write, Read, Trim, Prune, Seal, Fill, Floor}
+use Rattle.examples.specs.declared.ask.Ask.the-variants.{Fresh, Write, Read, Trim, Prune, Seal, Fill, Floor, Place, Drop}
 use Rattle.examples.specs.declared.ask.Told.{Told}
-
-abbrev pub told : ℕ → ℕ → ℕ → Told
-told answer first second = record { answer = answer; first = first; second = second }
+use Rattle.examples.specs.Lays.{told, placeTold, dropTold}
 
 -- so many bytes, each 7; at most 33, one more than a page holds
 abbrev pub sevens : ℕ → List ℕ
@@ -47,6 +45,8 @@ toldOf m (Prune e p) = told (pruneAnswer small m (e .0) (p .0)) 0 0
 toldOf m (Seal n) = told (sealAnswer small m (n .0)) (sealEdge small m (n .0)) 0
 toldOf m (Fill n) = told (fillAnswer m n) 0 0
 toldOf m Floor = told 0 (numberAt 8 8 m) 0
+toldOf m (Place p) = placeTold (p .0)
+toldOf m (Drop a b k) = dropTold a b k
 
 -- the memory that they leave
 unfoldable pub leftBy : List ℕ → Ask → List ℕ
@@ -58,6 +58,8 @@ leftBy m (Prune e p) = pruneMemory small m (e .0) (p .0)
 leftBy m (Seal n) = sealMemory small m (n .0)
 leftBy m (Fill n) = fillMemory m n
 leftBy m Floor = m
+leftBy m (Place p) = m
+leftBy m (Drop a b k) = m
 
 -- what asking the code promises
 pub record IsTold (m : List ℕ) (asked : Ask) (r : Told) (after : List ℕ) : Type 0 where

@@ -1,3 +1,4 @@
+pub mod Lays
 pub mod Asks
 pub mod Table
 pub mod Numbers

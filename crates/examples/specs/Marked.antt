@@ -9,7 +9,8 @@ use Rattle.unit.specs.Shape.{small, memorySize}
 use Rattle.examples.specs.declared.ask.Ask.the-variants.{Floor}
 use Rattle.examples.specs.declared.ask.Row.{Row}
 use Rattle.examples.specs.declared.ask.Told.{Told}
-use Rattle.examples.specs.Asks.{told, toldOf, leftBy}
+use Rattle.examples.specs.Lays.{told}
+use Rattle.examples.specs.Asks.{toldOf, leftBy}
 use Rattle.examples.specs.Table.{rows}
 
 -- whether two answers are the same, number for number

@@ -4,9 +4,8 @@ use mathlib.Core.Bool.{cond}
 use mathlib.Core.List.{List, [], _∷_, _++_}
 use lib.Dec.{eqb}
 use Rattle.examples.specs.declared.ask.Ask.{Ask}
-use Rattle.examples.specs.declared.ask.Ask.the-variants.{Fresh, Write, Read, Trim, Prune, Seal, Fill, Floor}
+use Rattle.examples.specs.declared.ask.Ask.the-variants.{Fresh, Write, Read, Trim, Prune, Seal, Fill, Floor, Place, Drop}
 use Rattle.examples.specs.declared.ask.Row.{Row}
-use Rattle.examples.specs.Asks.{told}
 use Rattle.examples.specs.Table.{epoch, position}
 
 -- what is asked, epoch, position, kind, bytes
@@ -19,6 +18,8 @@ askNumbers (Prune e p) = 5 ∷ e .0 ∷ p .0 ∷ 0 ∷ 0 ∷ []
 askNumbers (Seal n) = 6 ∷ n .0 ∷ 0 ∷ 0 ∷ 0 ∷ []
 askNumbers (Fill n) = 7 ∷ 1 ∷ n ∷ 0 ∷ 0 ∷ []
 askNumbers Floor = 8 ∷ 0 ∷ 0 ∷ 0 ∷ 0 ∷ []
+askNumbers (Place p) = 9 ∷ 0 ∷ p .0 ∷ 0 ∷ 0 ∷ []
+askNumbers (Drop a b k) = 10 ∷ a ∷ b ∷ 0 ∷ k ∷ []
 
 -- the example, what is asked, what is told
 abbrev pub rowNumbers : Row → List ℕ
@@ -28,7 +29,7 @@ unfoldable pub numbersOf : List Row → List (List ℕ)
 numbersOf [] = []
 numbersOf (r ∷ rs) = rowNumbers r ∷ numbersOf rs
 
--- what is asked, read back: of an epoch and a unit's number 32 bits are taken, of a kind 8
+-- what is asked, read back: of an epoch and a unit's number 32 bits are taken, of a kind and a unit to drop 8
 unfoldable pub askOf : ℕ → ℕ → ℕ → ℕ → ℕ → Ask
 askOf asked e p kind size =
     cond (eqb asked 1) (Fresh (p % 2 ^ 32))
@@ -38,4 +39,6 @@ askOf asked e p kind size =
     (cond (eqb asked 5) (Prune (epoch (e % 2 ^ 32)) (position p))
     (cond (eqb asked 6) (Seal (epoch (e % 2 ^ 32)))
     (cond (eqb asked 7) (Fill p)
-    Floor))))))
+    (cond (eqb asked 9) (Place (position p))
+    (cond (eqb asked 10) (Drop (e % 256) (p % 256) size)
+    Floor))))))))

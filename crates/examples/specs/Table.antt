@@ -1,15 +1,16 @@
 -- The paper's marked examples: what each row asks, and what must be answered. Examples 1 to 9 each start with a fresh unit 1.
+-- 10 and 11 ask of a layout; a set's units are shown as a number, a byte each, lowest first.
 -- An edge that the paper names is shown by a seal of the epoch at which the unit is sealed already.
-use Prim.Native.Nat.{ℕ, _-_}
+use Prim.Native.Nat.{ℕ, _+_, _*_, _-_}
 use mathlib.Core.List.{List, [], _∷_}
 use Rattle.num.specs.Limits.{limit}
 use Rattle.num.specs.declared.count.Epoch.{Epoch}
 use Rattle.num.specs.declared.count.Position.{Position}
 use Rattle.examples.specs.declared.ask.Ask.{Ask}
-use Rattle.examples.specs.declared.ask.Ask.the-variants.{Fresh, Write, Read, Trim, Prune, Seal, Fill, Floor}
+use Rattle.examples.specs.declared.ask.Ask.the-variants.{Fresh, Write, Read, Trim, Prune, Seal, Fill, Floor, Place, Drop}
 use Rattle.examples.specs.declared.ask.Told.{Told}
 use Rattle.examples.specs.declared.ask.Row.{Row}
-use Rattle.examples.specs.Asks.{told}
+use Rattle.examples.specs.Lays.{told}
 
 -- ---- what is asked, by epoch and position
 
@@ -37,6 +38,13 @@ prune e p = Prune (epoch e) (position p)
 abbrev seal : ℕ → Ask
 seal n = Seal (epoch n)
 
+abbrev place : ℕ → Ask
+place p = Place (position p)
+
+-- unit 2 is dropped: what is left of set k
+abbrev dropTwo : ℕ → Ask
+dropTwo k = Drop 2 2 k
+
 -- ---- what is answered
 
 abbrev answers : ℕ → Told
@@ -50,13 +58,17 @@ shows kind size = told 0 kind size
 abbrev stands : ℕ → Told
 stands p = told 0 p 0
 
+-- fine, with the number of a set
+abbrev belongs : ℕ → Told
+belongs set = told 0 set 0
+
 abbrev row : ℕ → Ask → Told → Row
 row example asked told = record { example = example; asked = asked; told = told }
 
 -- ---- the table
 
 abbrev pub count : ℕ
-count = 37
+count = 45
 
 unfoldable pub rows : List Row
 rows =
@@ -97,4 +109,12 @@ rows =
     ∷ row 9 (prune 1 2) (answers 0)
     ∷ row 9 Floor (stands 3)
     ∷ row 9 (seal 0) (stands 3)
+    ∷ row 10 (place 0) (belongs 0)
+    ∷ row 10 (place 9) (belongs 1)
+    ∷ row 10 (place 10) (belongs 2)
+    ∷ row 10 (place 11) (belongs 2)
+    ∷ row 11 (dropTwo 0) (told 0 1 1)
+    ∷ row 11 (dropTwo 1) (told 0 1 3)
+    ∷ row 11 (dropTwo 2) (told 0 2 (1 + 256 * 3))
+    ∷ row 11 (Drop 2 3 0) (answers 13)
     ∷ []

@@ -1,4 +1,4 @@
-// A row of the table: what is asked of a unit, and what it must answer.
+// A row of the table: what is asked of a unit or of a layout, and what it must answer.
 use num::count::Epoch;
 use num::count::Position;
 
@@ -15,9 +15,14 @@ pub enum Ask {
     Fill(u64),
     // The floor, which no request tells: its bytes in the memory.
     Floor,
+    // Example 10's layout: the set of a position.
+    Place(Position),
+    // Two units dropped from it, or one that is named twice: the set of that number.
+    Drop(u8, u8, usize),
 }
 
-// The number answered; of a read also the kind and the length, of a seal the edge, of the floor the floor. 0 elsewhere.
+// The number answered; of a read also the kind and the length, of a seal the edge, of the floor the floor; of a position the
+// number of its set, counted from 0, of a set how many units it has and the units, a byte each, lowest first. 0 elsewhere.
 pub struct Told {
     pub answer: u64,
     pub first: u64,
@@ -33,7 +38,7 @@ pub struct Row {
 
 impl Row {
     // Rows of the table, and the numbers that each has there.
-    pub const COUNT: usize = 37;
+    pub const COUNT: usize = 45;
 
     pub const NUMBERS: usize = 9;
 }

@@ -1,4 +1,4 @@
-// Runs the paper's marked examples against the code of a unit, row by row of the table.
+// Runs the paper's marked examples against the code of a unit and of the layouts, row by row of the table.
 ghost use mathlib.Core.Path.{_≡_};
 ghost use lib.ListN.{length};
 use crate::ask::Row;
@@ -10,6 +10,7 @@ use crate::tell::tell;
 use unit::memory::Unit;
 
 mod ask;
+mod lay;
 mod row;
 mod show;
 mod table;

@@ -37,6 +37,8 @@ fn ask_of(asked: u64, e: u64, p: u64, kind: u64, size: u64) -> Ask
         5 => Ask::Prune(epoch, position),
         6 => Ask::Seal(epoch),
         7 => Ask::Fill(p),
+        9 => Ask::Place(position),
+        10 => Ask::Drop(byte(e), byte(p), size as usize),
         _ => Ask::Floor,
     }
 }

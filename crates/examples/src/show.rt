@@ -6,6 +6,7 @@ use crate::ask::Ask;
 use crate::ask::Row;
 use crate::ask::Told;
 use libc::STDOUT_FILENO;
+use num::answer::pick;
 use num::count::Epoch;
 use num::count::Position;
 
@@ -36,6 +37,22 @@ fn say_page(kind: u64, size: u64) {
     say(b" bytes");
 }
 
+fn say_unit(n: u64) {
+    if n != 0 {
+        say(b" ");
+        say_number(n);
+    }
+}
+
+// The units of a set, a byte each.
+fn say_units(n: u64) {
+    say(b" units");
+    say_unit(n % 256);
+    say_unit(n / 256 % 256);
+    say_unit(n / 65_536 % 256);
+    say_unit(n / 16_777_216);
+}
+
 fn say_asked(asked: Ask) {
     match asked {
         Ask::Fresh(n) => {
@@ -58,6 +75,17 @@ fn say_asked(asked: Ask) {
             say_number(n);
         }
         Ask::Floor => say(b"look at the floor"),
+        Ask::Place(p) => {
+            say(b"set of p");
+            say_number(p.0);
+        }
+        Ask::Drop(a, b, k) => {
+            say(b"drop unit");
+            say_unit(a as u64);
+            say_unit(pick(a == b, 0, b) as u64);
+            say(b", set ");
+            say_number(k as u64);
+        }
     }
 }
 
@@ -77,6 +105,11 @@ fn say_told(asked: Ask, told: Told) {
             say(b" floor ");
             say_number(told.first);
         }
+        Ask::Place(_) => {
+            say(b" set ");
+            say_number(told.first);
+        }
+        Ask::Drop(_, _, _) => say_units(told.second),
         _ => {}
     }
 }

@@ -5,8 +5,9 @@ ghost use Rattle.examples.specs.Numbers.{numbersOf};
 use crate::ask::Row;
 use num::count::Position;
 
-// Example; what is asked (1 fresh, 2 write, 3 read, 4 trim, 5 prune, 6 seal, 7 fill, 8 floor), epoch, position, kind, bytes; answer, two numbers more.
+// Example; what is asked (1 fresh, 2 write, 3 read, 4 trim, 5 prune, 6 seal, 7 fill, 8 floor, 9 place, 10 drop), epoch, position, kind, bytes; answer, two numbers more.
 // A fresh unit's number and how many positions a fill writes stand where others have the position.
+// The units that are dropped stand where others have epoch and position, and the set that is shown where others have the bytes.
 const TABLE: [[u64; Row::NUMBERS]; Row::COUNT] = [
     [1, 1, 0, 1, 0, 0, 0, 0, 0],
     [1, 3, 1, 0, 0, 0, 7, 0, 0],
@@ -45,6 +46,14 @@ const TABLE: [[u64; Row::NUMBERS]; Row::COUNT] = [
     [9, 5, 1, 2, 0, 0, 0, 0, 0],
     [9, 8, 0, 0, 0, 0, 0, 3, 0],
     [9, 6, 0, 0, 0, 0, 0, 3, 0],
+    [10, 9, 0, 0, 0, 0, 0, 0, 0],
+    [10, 9, 0, 9, 0, 0, 0, 1, 0],
+    [10, 9, 0, 10, 0, 0, 0, 2, 0],
+    [10, 9, 0, 11, 0, 0, 0, 2, 0],
+    [11, 10, 2, 2, 0, 0, 0, 1, 1],
+    [11, 10, 2, 2, 0, 1, 0, 1, 3],
+    [11, 10, 2, 2, 0, 2, 0, 2, 1 + 256 * 3],
+    [11, 10, 2, 3, 0, 0, 13, 0, 0],
 ];
 
 // The table, number for number that of the rules.

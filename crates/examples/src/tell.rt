@@ -1,10 +1,13 @@
-// What the code of a unit tells where a row asks: each answer with the numbers that come with it.
+// What the code tells where a row asks: each answer with the numbers that come with it.
 ghost use mathlib.Core.Path.{_≡_};
 ghost use Prim.Native.Nat.{min};
 ghost use Rattle.num.specs.Bytes.{numberAt};
-ghost use Rattle.examples.specs.Asks.{told, IsFilled, IsTold};
+ghost use Rattle.examples.specs.Lays.{told};
+ghost use Rattle.examples.specs.Asks.{IsFilled, IsTold};
 use crate::ask::Ask;
 use crate::ask::Told;
+use crate::lay::tell_drop;
+use crate::lay::tell_place;
 use num::answer::pick;
 use num::bytes::number_at;
 use num::bytes::wide;
@@ -101,5 +104,7 @@ pub(crate) fn tell(mem: &mut [u8], asked: Ask) -> Told
         Ask::Seal(n) => tell_seal(mem, n),
         Ask::Fill(n) => plain(fill(mem, n)),
         Ask::Floor => tell_floor(mem),
+        Ask::Place(p) => tell_place(p),
+        Ask::Drop(a, b, k) => tell_drop(a, b, k),
     }
 }

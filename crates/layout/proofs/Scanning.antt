@@ -12,8 +12,9 @@ use lib.ListN.{length, getD, drop, length-append}
 use Rattle.num.proofs.Tests.{and-both, false-true, left-step}
 use Rattle.layout.specs.declared.value.Chain.{Chain}
 use Rattle.layout.specs.Lay.{_in?_, inSets, rising, goodSet, goodSets, unitLimit}
-use Rattle.layout.specs.Value.{padded, unitsIn, chainOf, tidyChain}
-use Rattle.layout.specs.Codec.{counted, setsBytes, setFront, setsAt, pastSets, setsSaid, same, areSets, setsName}
+use Rattle.layout.specs.declared.plan.Wish.{Wish}
+use Rattle.layout.specs.Value.{padded, noChain, unitsIn, chainOf, tidyChain}
+use Rattle.layout.specs.Codec.{counted, setsBytes, setFront, setsAt, pastSets, setsSaid, same, areSets, setsName, wishSaid}
 use Rattle.layout.proofs.Bools.{same-test}
 use Rattle.layout.proofs.Padding.{length-padded, padded-front}
 use Rattle.layout.proofs.Values.{good-short, sets-back, chain-tidy}
@@ -167,3 +168,11 @@ sets-named b u ok found e h = rw (e, h) (go (areSets b) refl)
     go : (t : Bool) → areSets b ≡ t → (t && inSets u (map unitsIn (map chainOf (setsSaid b)))) ≡ (t && inSets u (setsSaid b))
     go true g = ap (inSets u) (sets-back (setsSaid b) (good-short (setsSaid b) (all-good b g)))
     go false g = refl
+
+-- ---- by value
+
+pub wish-said : (b : List ℕ) (n m : ℕ) (cs : List Chain) → n ≡ getD b 0 0 → m ≡ n → cs ≡ padded 16 noChain (map chainOf (setsAt m (drop 1 b))) → record { count = n; sets = cs } ≡ wishSaid b
+unfolding wishSaid
+wish-said b n m cs en em e =
+    let k : m ≡ getD b 0 0 = em ∙ en in
+    λ i. record { count = en i; sets = (rw k at e) i }

@@ -1,7 +1,7 @@
 -- A layout as bytes: sections in fixed order, each after its one-byte count.
 use Prim.Native.Nat.{ℕ, zero, suc, _+_}
 use mathlib.Core.Bool.{Bool, true, false, _&&_, _||_, not, cond}
-use mathlib.Core.List.{List, [], _∷_, _++_}
+use mathlib.Core.List.{List, [], _∷_, _++_, map}
 use mathlib.Core.Path.{_≡_}
 use lib.Dec.{eqb, ltb}
 use lib.ListN.{length, getD, drop}
@@ -9,8 +9,9 @@ use lib.Seq.{sets}
 use Rattle.num.specs.Bytes.{leBytes, numberAt}
 use Rattle.num.specs.Checks.{lowest, _if_}
 use Rattle.layout.specs.declared.value.Layout.{Layout}
-use Rattle.layout.specs.Lay.{Span, Lay, good, goodSets, inSets, unitsOf}
-use Rattle.layout.specs.Value.{padded, layOf, valueOf, blank, goodValue}
+use Rattle.layout.specs.declared.plan.Wish.{Wish}
+use Rattle.layout.specs.Lay.{Span, Lay, good, goodSets, inSets, unitsOf, setsLimit}
+use Rattle.layout.specs.Value.{padded, noChain, chainOf, layOf, valueOf, blank, goodValue}
 
 -- ---- writing
 
@@ -112,6 +113,10 @@ areSets b = goodSets (setsSaid b) && same (length (setsSaid b) ∷ setsBytes (se
 -- unit u stands in one of them
 unfoldable pub setsName : List ℕ → ℕ → Bool
 setsName b u = areSets b && inSets u (setsSaid b)
+
+-- by value: the first 16 of them, and how many they are
+unfoldable pub wishSaid : List ℕ → Wish
+wishSaid b = record { count = getD b 0 0; sets = padded setsLimit noChain (map chainOf (setsSaid b)) }
 
 -- ---- a layout's value that is handed in, and its bytes in a lent buffer
 

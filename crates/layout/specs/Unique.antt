@@ -6,7 +6,7 @@ use mathlib.Core.Path.{_≡_}
 use Rattle.num.specs.Unique.{once}
 use Rattle.layout.specs.declared.value.Layout.{Layout}
 use Rattle.layout.specs.Value.{blank, goodValue, layOf}
-use Rattle.layout.specs.Codec.{LayoutRead, LayoutWritten, areSets, setsName}
+use Rattle.layout.specs.Codec.{LayoutRead, LayoutWritten, areSets, setsName, wishSaid}
 use Rattle.layout.specs.declared.place.Placed.{Placed}
 use Rattle.layout.specs.declared.plan.Wish.{Wish}
 use Rattle.layout.specs.declared.plan.Planned.{Planned}
@@ -42,6 +42,10 @@ are-sets-once b r s p q = once p q
 -- sets_name
 pub sets-name-once : (b : List ℕ) (u : ℕ) (r s : Bool) → r ≡ setsName b u → s ≡ setsName b u → r ≡ s
 sets-name-once b u r s p q = once p q
+
+-- wish_of
+pub wish-of-once : (b : List ℕ) (w v : Wish) → w ≡ wishSaid b → v ≡ wishSaid b → w ≡ v
+wish-of-once b w v p q = once p q
 
 -- ---- places, successors, plans, the holder
 

@@ -1,10 +1,12 @@
 // New sets as bytes: a count, and then sets as in a layout, up to 255.
 ghost use mathlib.Core.Path.{_≡_};
-ghost use Rattle.layout.specs.Codec.{areSets, setsName};
+ghost use Rattle.layout.specs.Codec.{areSets, setsName, wishSaid};
 use crate::good::good_chain;
 use crate::place::holds;
+use crate::plan::Wish;
 use crate::read::byte_at;
 use crate::read::chain_from;
+use crate::read::sets_from;
 use num::bytes::size;
 
 // Whether the bytes are a count and that many good sets, and nothing else.
@@ -39,4 +41,14 @@ pub fn sets_name(b: &[u8], unit: u8) -> bool
         i += 1;
     }
     are_sets(b) & found
+}
+
+// The sets that the bytes say: their count, and the first 16.
+pub fn wish_of(b: &[u8]) -> Wish
+    ensures { λ r. ⌜ r ≡ wishSaid (now (b .entry)) ⌝ }
+{
+    let count = byte_at(b, 0);
+    let s = sets_from(b, 1, size(count));
+    let sets = s.sets;
+    Wish { count, sets }
 }

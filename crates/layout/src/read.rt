@@ -43,9 +43,9 @@ pub(crate) fn chain_from(b: &[u8], at: usize) -> Chain
 }
 
 // Sets that were read, and where the bytes behind them start.
-struct Sets {
-    sets: [Chain; 16],
-    past: usize,
+pub(crate) struct Sets {
+    pub(crate) sets: [Chain; 16],
+    pub(crate) past: usize,
 }
 
 // One set more, the `i`th.
@@ -61,7 +61,7 @@ fn with_chain(mut s: Sets, i: usize, c: Chain) -> Sets
 }
 
 // The `n` sets from `at` on; there is room for 16, and the others are passed over.
-fn sets_from(b: &[u8], at: usize, n: usize) -> Sets
+pub(crate) fn sets_from(b: &[u8], at: usize, n: usize) -> Sets
     requires { ⌜ (at ≤ 1000) × (n ≤ 255) ⌝ }
     ensures { λ r. ⌜ (r .sets ≡ padded 16 noChain (map chainOf (setsAt n (drop at (now (b .entry)))))) × ((drop (r .past) (now (b .entry)) ≡ pastSets n (drop at (now (b .entry)))) × (r .past ≤ at + 256 * n)) ⌝ }
 {

@@ -14,6 +14,12 @@ half-requires-2 c κs = search needs
 byte-requires : tie.Need-byte-requires
 byte-requires c κs = search needs
 
+byte-requires-2 : tie.Need-byte-requires-2
+byte-requires-2 c κs = search needs
+
+byte-requires-3 : tie.Need-byte-requires-3
+byte-requires-3 c κs = search needs
+
 returns : tie.Need-returns
 unfolding askOf
 returns c = rw (c .before .match .keys1, c .half2 .ensures)
@@ -44,17 +50,27 @@ returns-7 c = rw (c .match .keys7)
 
 returns-8 : tie.Need-returns-8
 unfolding askOf
-returns-8 c =
+returns-8 c = rw (c .match .keys8)
+
+returns-9 : tie.Need-returns-9
+unfolding askOf
+returns-9 c = rw (c .before .before .match .keys9, c .before .byte2 .ensures, c .byte3 .ensures)
+
+returns-10 : tie.Need-returns-10
+unfolding askOf
+returns-10 c =
     let n : ℕ = c .before .before .args .asked in
     let r = c .match .rest in
     rw (
-      ne-eqb n 1 (r .0 .0 .0 .0 .0 .0 .1),
-      ne-eqb n 2 (r .0 .0 .0 .0 .0 .1),
-      ne-eqb n 3 (r .0 .0 .0 .0 .1),
-      ne-eqb n 4 (r .0 .0 .0 .1),
-      ne-eqb n 5 (r .0 .0 .1),
-      ne-eqb n 6 (r .0 .1),
-      ne-eqb n 7 (r .1),
+      ne-eqb n 1 (r .0 .0 .0 .0 .0 .0 .0 .0 .1),
+      ne-eqb n 2 (r .0 .0 .0 .0 .0 .0 .0 .1),
+      ne-eqb n 3 (r .0 .0 .0 .0 .0 .0 .1),
+      ne-eqb n 4 (r .0 .0 .0 .0 .0 .1),
+      ne-eqb n 5 (r .0 .0 .0 .0 .1),
+      ne-eqb n 6 (r .0 .0 .0 .1),
+      ne-eqb n 7 (r .0 .0 .1),
+      ne-eqb n 9 (r .0 .1),
+      ne-eqb n 10 (r .1),
     )
 
 pub ask-of-spec : {M : Type 1} → statement M
@@ -64,6 +80,8 @@ ask-of-spec =
     half-requires
     half-requires-2
     byte-requires
+    byte-requires-2
+    byte-requires-3
     returns
     returns-2
     returns-3
@@ -71,4 +89,6 @@ ask-of-spec =
     returns-5
     returns-6
     returns-7
-    returns-8)
+    returns-8
+    returns-9
+    returns-10)

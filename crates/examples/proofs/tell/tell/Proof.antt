@@ -1,4 +1,4 @@
-use Rattle.examples.proofs.Telling.{fresh-told, trim-told, prune-told, fill-told, floor-told}
+use Rattle.examples.proofs.Telling.{fresh-told, trim-told, prune-told, fill-told, floor-told, place-told, drop-told}
 use borrow.Author.Needs.{needs}
 use Rattle.examples.proofs.tell.tell.Statement.{statement}
 use Rattle.examples.proofs.tell.tell.Tie as tie
@@ -63,6 +63,18 @@ enum-told c = search needs
 tell-floor-requires : tie.Need-tell-floor-requires
 tell-floor-requires c κs = search needs
 
+enum-known-asked-8 : tie.Need-enum-known-asked-8
+enum-known-asked-8 c = search needs
+
+tell-place-requires : tie.Need-tell-place-requires
+tell-place-requires c κs = search needs
+
+enum-known-asked-9 : tie.Need-enum-known-asked-9
+enum-known-asked-9 c = search needs
+
+tell-drop-requires : tie.Need-tell-drop-requires
+tell-drop-requires c κs = search needs
+
 same-length : tie.Need-same-length
 same-length c = search needs
 
@@ -111,6 +123,12 @@ same-length-8 c = search needs
 returns-8 : tie.Need-returns-8
 returns-8 c = rw (c .before .before .enum-told .given .1) (floor-told (c .tell-floor .ensures))
 
+returns-9 : tie.Need-returns-9
+returns-9 c = rw (c .before .before .asked8 .given .1) (place-told (c .tell-place .ensures))
+
+returns-10 : tie.Need-returns-10
+returns-10 c = rw (c .before .before .asked9 .given .1) (drop-told (c .tell-drop .ensures))
+
 pub tell-spec : {M : Type 1} → statement M
 tell-spec =
     tie.close
@@ -135,6 +153,10 @@ tell-spec =
     plain-requires-4
     enum-told
     tell-floor-requires
+    enum-known-asked-8
+    tell-place-requires
+    enum-known-asked-9
+    tell-drop-requires
     same-length
     returns
     same-length-2
@@ -150,4 +172,6 @@ tell-spec =
     same-length-7
     returns-7
     same-length-8
-    returns-8)
+    returns-8
+    returns-9
+    returns-10)
