@@ -17,7 +17,7 @@ use num::count::Position;
 use num::count::Request;
 
 // Head to tail; heads that are taken; 6 at a later unit counts as fine; eight heads taken, 17 requests.
-pub fn appends() {
+pub(crate) fn appends() {
     text(b"append\n");
     let c = play(Client::fresh(), script::appending(3), b"h.t0f.f.");
     text(b"append, heads taken\n");
@@ -31,7 +31,7 @@ pub fn appends() {
 }
 
 // The tail is asked: a page, nothing yet, trimmed.
-pub fn reads() {
+pub(crate) fn reads() {
     text(b"read\n");
     let c = play(Client::fresh(), Job::of(Work::Read(Position(0))), b"h.s.");
     let d = play(c, Job::of(Work::Read(Position(11))), b"h.r7");
@@ -39,7 +39,7 @@ pub fn reads() {
 }
 
 // Junk from head to tail; what the head holds is carried on; the head is trimmed meanwhile.
-pub fn fills() {
+pub(crate) fn fills() {
     text(b"fill\n");
     let e = play(Client::fresh(), Job::of(Work::Fill(Position(0))), b"h.f.f.");
     text(b"fill, the head holds a page\n");
@@ -48,7 +48,7 @@ pub fn fills() {
     play(f, Job::of(Work::Fill(Position(9))), b"h.r6r5");
 }
 
-pub fn trims() {
+pub(crate) fn trims() {
     text(b"trim\n");
     let c = play(
         Client::fresh(),
@@ -60,7 +60,7 @@ pub fn trims() {
 }
 
 // 2, 3 and 18, each with nothing sent; a prune to the very end is fine.
-pub fn begins() {
+pub(crate) fn begins() {
     text(b"begin\n");
     let d = play(
         Client::fresh(),
@@ -91,7 +91,7 @@ fn changing(count: u8, first: u8, second: u8, sets: u8, one: u8, two: u8) -> Job
 }
 
 // Unit 2 dropped, and overtaken.
-pub fn reorganises() {
+pub(crate) fn reorganises() {
     text(b"reorganise, unit 2 dropped\n");
     let c = play(Client::fresh(), changing(1, 2, 0, 0, 0, 0), b"h.e<e;f.f.");
     text(b"reorganise, overtaken at the holder\n");
@@ -101,7 +101,7 @@ pub fn reorganises() {
 }
 
 // Unit 3 dropped, and {4, 5} in a new range: new units are sealed too.
-pub fn widens() {
+pub(crate) fn widens() {
     text(b"reorganise, a new range at an edge\n");
     let e = play(
         Client::fresh(),
@@ -115,7 +115,7 @@ pub fn widens() {
 }
 
 // Nothing is sealed: a set would be lost, a unit that is none, a unit both dropped and new, a set that is not good, too many sets, the last epoch.
-pub fn refused_plans() {
+pub(crate) fn refused_plans() {
     text(b"reorganise, refused\n");
     let c = play(Client::fresh(), changing(2, 2, 3, 0, 0, 0), b"h.");
     let d = play(c, changing(1, 9, 0, 0, 0, 0), b"h.");
@@ -137,7 +137,7 @@ fn from(client: u8, life: u16, number: u32, c: Client) {
 }
 
 // The answer to another client, life or number is ignored; so is any at an idle client. A layout that is not good ends the operation.
-pub fn strangers() {
+pub(crate) fn strangers() {
     text(b"answers to something else\n");
     let c = play(Client::fresh(), script::appending(3), b"");
     from(2, 1, 1, c);
@@ -165,7 +165,7 @@ fn reborn(c: Client) -> Client {
 }
 
 // With no number left to send, the operation ends with 19, and none begins. Given up while idle and while busy. The last life.
-pub fn ends_of_numbers() {
+pub(crate) fn ends_of_numbers() {
     text(b"the last number\n");
     let used = Request(4_294_967_294);
     let mut c = Client::fresh();

@@ -17,7 +17,7 @@ use num::count::Epoch;
 use num::count::Position;
 
 // The layout of the paper's example: sets {1, 2}, {2, 3} and, from 10 on, {1, 3}.
-pub fn layout_of(epoch: u32) -> Layout {
+pub(crate) fn layout_of(epoch: u32) -> Layout {
     let mut sets = [Chain {
         count: 0,
         units: [0u8; 4],
@@ -56,7 +56,7 @@ pub fn layout_of(epoch: u32) -> Layout {
 }
 
 // A page of three bytes.
-pub fn data() -> Page {
+pub(crate) fn data() -> Page {
     let mut bytes = [0u8; 32];
     bytes[0] = 65;
     bytes[1] = 66;
@@ -68,7 +68,7 @@ pub fn data() -> Page {
     }
 }
 
-pub fn appending(len: u8) -> Job {
+pub(crate) fn appending(len: u8) -> Job {
     let g = data();
     let bytes = g.bytes;
     Job::append(len, bytes)
@@ -97,7 +97,7 @@ fn held_of(letter: u8) -> Layout {
     }
 }
 
-pub fn said(letter: u8, n: u8) -> Response {
+pub(crate) fn said(letter: u8, n: u8) -> Response {
     let reply = reply_of(letter, n);
     let layout = held_of(letter);
     let page = data();
@@ -109,7 +109,7 @@ pub fn said(letter: u8, n: u8) -> Response {
 }
 
 // What client 1 does when its outstanding request is answered.
-pub fn answer(c: Client, response: Response) -> Turn {
+pub(crate) fn answer(c: Client, response: Response) -> Turn {
     let used = c.used;
     let stamp = Stamp {
         client: 1,
@@ -130,7 +130,7 @@ fn hears(c: Client, letter: u8, digit: u8, aloud: bool) -> Client {
 }
 
 // The client at the end of a script.
-pub fn follows(first: Client, script: &[u8], aloud: bool) -> Client {
+pub(crate) fn follows(first: Client, script: &[u8], aloud: bool) -> Client {
     let mut c = first;
     let n = script.len() / 2;
     let mut i = 0;
@@ -142,7 +142,7 @@ pub fn follows(first: Client, script: &[u8], aloud: bool) -> Client {
 }
 
 // An operation from its begin on.
-pub fn play(c: Client, job: Job, script: &[u8]) -> Client {
+pub(crate) fn play(c: Client, job: Job, script: &[u8]) -> Client {
     let done = begin(c, job);
     show::text(b" begin");
     show::number(done.answer as u64);
@@ -154,7 +154,7 @@ pub fn play(c: Client, job: Job, script: &[u8]) -> Client {
 }
 
 // The same, unseen, from a fresh client.
-pub fn reach(job: Job, script: &[u8]) -> Client {
+pub(crate) fn reach(job: Job, script: &[u8]) -> Client {
     let done = begin(Client::fresh(), job);
     let t = done.turn;
     let next = t.client;

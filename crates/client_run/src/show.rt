@@ -9,21 +9,21 @@ use layout::value::Layout;
 use libc::STDOUT_FILENO;
 use num::bytes::wide;
 
-pub fn text(words: &[u8]) {
+pub(crate) fn text(words: &[u8]) {
     io::write_all(STDOUT_FILENO, words);
 }
 
-pub fn number(n: u64) {
+pub(crate) fn number(n: u64) {
     text(b" ");
     io::print_decimal(STDOUT_FILENO, n);
 }
 
-pub fn line() {
+pub(crate) fn line() {
     text(b"\n");
 }
 
 // A page's kind and length, and its first byte; nothing where there is none.
-pub fn page(g: Page) {
+pub(crate) fn page(g: Page) {
     let bytes = g.bytes;
     if g.kind == 0 {
         return;
@@ -43,7 +43,7 @@ fn chain(c: Chain) {
 }
 
 // The epoch, the first four sets, and the starts of the first three ranges; nothing where there is no layout.
-pub fn offered(l: Layout) {
+pub(crate) fn offered(l: Layout) {
     let sets = l.sets;
     let ranges = l.ranges;
     if l.epoch.0 == 0 {
@@ -78,7 +78,7 @@ fn at_unit(unit: u8, epoch: u32, position: u64) {
     number(position);
 }
 
-pub fn ask(a: Ask) {
+pub(crate) fn ask(a: Ask) {
     match a {
         Ask::Fetch => text(b" fetch"),
         Ask::Token(e) => {
@@ -116,7 +116,7 @@ pub fn ask(a: Ask) {
 }
 
 // Number, position and epoch, and the page that a read was shown.
-pub fn outcome(o: Outcome) {
+pub(crate) fn outcome(o: Outcome) {
     let g = o.page;
     text(b"ends");
     number(o.number as u64);
@@ -127,7 +127,7 @@ pub fn outcome(o: Outcome) {
     page(g);
 }
 
-pub fn turn(t: Turn) {
+pub(crate) fn turn(t: Turn) {
     let act = t.act;
     let query = t.query;
     let asked = query.ask;

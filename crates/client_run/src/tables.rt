@@ -115,7 +115,7 @@ fn seals() {
     row(b"starting", reach(Job::of(Work::Reorganise), b"h.e0e0e0f."));
 }
 
-pub fn all() {
+pub(crate) fn all() {
     appends();
     fills();
     trims();
