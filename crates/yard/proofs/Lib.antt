@@ -7,3 +7,10 @@ pub mod Doing
 pub mod Memories
 pub mod Places
 pub mod Serving
+pub mod Blanks
+pub mod Counting
+pub mod Stepping
+pub mod Delivering
+pub mod Laying
+pub mod Settling
+pub mod Freshening

@@ -31,3 +31,9 @@ closeUp (l ∷ ls) (suc n) (suc i) = l ∷ closeUp ls n i
 -- where there is no such letter, nothing changes
 abbrev pub dropAt : List Letter → ℕ → ℕ → List Letter
 dropAt ls n i = cond (leb n (length ls) && ltb i n) (closeUp ls n i) ls
+
+-- the first n places blank, or all where there are fewer
+unfoldable pub blanked : List Letter → ℕ → List Letter
+blanked [] n = []
+blanked (l ∷ ls) zero = l ∷ ls
+blanked (l ∷ ls) (suc n) = blankLetter ∷ blanked ls n

@@ -30,6 +30,9 @@ pub record Lent : Type 0 where
   pub table : List Letter
   pub memories : List ℕ
 
+abbrev pub lentOf : Yard → Sequencer → List Letter → List ℕ → Lent
+lentOf y s table m = record { yard = y; sequencer = s; table = table; memories = m }
+
 -- ---- "A step first tests what it is lent"
 
 -- 6,168: the bytes of one unit

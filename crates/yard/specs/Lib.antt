@@ -4,4 +4,7 @@ pub mod Serve
 pub mod Steps
 pub mod Lent
 pub mod Fresh
+pub mod Moves
 pub mod Parts
+pub mod Settled
+pub mod Prepared

@@ -2,7 +2,8 @@
 ghost use mathlib.Core.Path.{_≡_};
 ghost use mathlib.Core.Bool.{_&&_};
 ghost use lib.Dec.{leb, ltb};
-ghost use Rattle.yard.specs.Bag.{takeAt, putAt, dropAt};
+ghost use Prim.Native.Nat.{min};
+ghost use Rattle.yard.specs.Bag.{takeAt, putAt, dropAt, blanked};
 use crate::letter::Letter;
 
 // The letter at a place, copied out; past the end a blank one.
@@ -44,5 +45,25 @@ pub fn drop_at(table: &mut [Letter], count: usize, i: usize)
             j = j + 1;
         }
         table[j] = none;
+    }
+}
+
+// The smaller of two counts.
+fn smaller(a: usize, b: usize) -> usize
+    ensures { λ r. ⌜ r ≡ min a b ⌝ }
+{
+    if a <= b { a } else { b }
+}
+
+// The first `count` places become blank.
+pub fn clear(table: &mut [Letter], count: usize)
+    ensures { λ _. ⌜ now (table .exit) ≡ blanked (now (table .entry)) count ⌝ }
+{
+    let none = Letter::blank();
+    let n = smaller(count, table.len());
+    let mut j = 0;
+    while j < n {
+        table[j] = none;
+        j = j + 1;
     }
 }

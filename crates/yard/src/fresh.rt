@@ -1,8 +1,92 @@
 // Making a fresh yard.
+ghost use mathlib.Core.Path.{_≡_};
+ghost use lib.ListN.{length};
+ghost use Rattle.yard.specs.Lent.{unitsBytes};
+ghost use Rattle.yard.specs.Fresh.{freshUnits, freshYard};
+ghost use Rattle.yard.specs.Prepared.{freshNumberOf, IsPrepared};
 use crate::state::Yard;
+use client::state::Client;
+use layout::good::is_good;
+use layout::value::Layout;
+use num::answer::Answer;
+use num::answer::pick;
+use sequencer::Sequencer;
 
 // What making a yard answers, and the yard.
 pub struct Made {
     pub answer: u8,
     pub yard: Yard,
+}
+
+// Besides, the sequencer afterwards, and how many places of the table become blank.
+pub(crate) struct Prepared {
+    pub made: Made,
+    pub sequencer: Sequencer,
+    pub blanks: usize,
+}
+
+// Eight fresh units, from the last to the first.
+fn fresh_units(units: &mut [u8])
+    requires { ⌜ length (now units) ≡ 49344 ⌝ }
+    ensures { λ _. ⌜ now (units .exit) ≡ unitsBytes (freshUnits 1 8) ⌝ }
+{
+    let mut i: usize = 8;
+    while 0 < i {
+        i -= 1;
+        let start = i * 6168;
+        let end = start + 6168;
+        unit::fresh::fresh(&mut units[start..end], (i + 1) as u32);
+    }
+}
+
+// A yard with no letters and with clients that never began.
+fn fresh_yard(held: Layout) -> Yard
+    ensures { λ r. ⌜ r ≡ freshYard held ⌝ }
+{
+    let client = Client::fresh();
+    Yard {
+        held,
+        clients: [client; 4],
+        stopped: [false; 8],
+        count: 0,
+    }
+}
+
+// 1, 10 or 16, and 0 where the yard is made.
+fn fresh_number(held: Layout, places: usize, size: usize) -> u8
+    ensures { λ r. ⌜ r ≡ freshNumberOf held places size ⌝ }
+{
+    let epoch = held.epoch;
+    let good = is_good(held) & (epoch.0 == 1);
+    let table = pick(places != 32, Answer::BAG_FULL, Answer::FINE);
+    pick(
+        size != 49344,
+        Answer::MEMORY,
+        pick(!good, Answer::LAYOUT, table),
+    )
+}
+
+// All but the table, by value over the units' bytes.
+pub(crate) fn prepare(held: Layout, seq: Sequencer, places: usize, units: &mut [u8]) -> Prepared
+    ensures { λ r. ⌜ IsPrepared held seq places (now (units .entry)) r (now (units .exit)) ⌝ }
+{
+    let answer = fresh_number(held, places, units.len());
+    if answer != 0 {
+        let yard = fresh_yard(Layout::blank());
+        let made = Made { answer, yard };
+        return Prepared {
+            made,
+            sequencer: seq,
+            blanks: 0,
+        };
+    }
+    fresh_units(units);
+    let yard = fresh_yard(held);
+    let made = Made { answer, yard };
+    let sequencer = Sequencer::fresh();
+    Prepared {
+        made,
+        sequencer,
+        blanks: 32,
+    }
 }

@@ -1,8 +1,12 @@
 // The yard: a bag of letters between clients and machines, and the steps that carry them.
 pub mod bag;
+mod decide;
+mod deliver;
 pub mod fresh;
 pub mod letter;
 mod machine;
+mod moves;
+mod other_steps;
 pub mod state;
 mod unit_request;
 mod units;

@@ -1,0 +1,203 @@
+// What a step is lent is tested first; then all is decided by value, over the units' bytes.
+ghost use mathlib.Core.Path.{_≡_};
+ghost use mathlib.Core.Bool.{true, _||_, not, cond};
+ghost use Prim.Native.Nat.{_≤_};
+ghost use Rattle.layout.specs.Value.{goodValue};
+ghost use Rattle.yard.specs.Lent.{fetched, goodClients, goodUnits};
+ghost use Rattle.yard.specs.Steps.{step};
+ghost use Rattle.yard.specs.Parts.{worldOf};
+ghost use Rattle.yard.specs.Moves.{countAfter, refusing, Decided};
+ghost use Rattle.yard.specs.Settled.{testNumber, placeOf, settling, Decides};
+use crate::deliver::delivers;
+use crate::letter::Letter;
+use crate::moves::Moves;
+use crate::moves::count_after;
+use crate::moves::left_of;
+use crate::moves::refused;
+use crate::other_steps::begins;
+use crate::other_steps::drops;
+use crate::other_steps::forgets;
+use crate::other_steps::gives_up;
+use crate::other_steps::restarts;
+use crate::other_steps::stops;
+use crate::state::Step;
+use crate::state::Stepped;
+use crate::state::Yard;
+use crate::units::good_units;
+use client::state::Client;
+use client::state::Job;
+use client::state::Stage;
+use layout::good::is_good;
+use num::answer::Answer;
+use num::answer::pick;
+use num::bytes::size;
+use sequencer::Sequencer;
+
+// What a step gives back; and what it does to the table: of the first `count` letters the one at `gone` is dropped, and `letter` is put
+// at `place`. A place past the end changes nothing.
+pub(crate) struct Settled {
+    pub stepped: Stepped,
+    pub sequencer: Sequencer,
+    pub count: usize,
+    pub gone: usize,
+    pub place: usize,
+    pub letter: Letter,
+}
+
+// Has the client fetched a layout?
+fn has_fetched(stage: Stage) -> bool
+    ensures { λ r. ⌜ r ≡ fetched stage ⌝ }
+{
+    match stage {
+        Stage::Idle => false,
+        Stage::Fetching => false,
+        Stage::Drawing(_) => true,
+        Stage::Writing(_, _) => true,
+        Stage::Reading(_) => true,
+        Stage::Filling(_) => true,
+        Stage::Looking(_) => true,
+        Stage::Trimming(_) => true,
+        Stage::Pruning(_) => true,
+        Stage::Sealing(_, _) => true,
+        Stage::Offering(_) => true,
+        Stage::Starting => true,
+    }
+}
+
+fn good_client(client: Client) -> bool
+    ensures { λ r. ⌜ r ≡ (not (fetched (client .stage)) || goodValue (client .layout)) ⌝ }
+{
+    let stage = client.stage;
+    let layout = client.layout;
+    !has_fetched(stage) | is_good(layout)
+}
+
+fn good_clients(clients: [Client; 4]) -> bool
+    ensures { λ r. ⌜ r ≡ goodClients clients ⌝ }
+{
+    let first = clients[0];
+    let second = clients[1];
+    let third = clients[2];
+    let fourth = clients[3];
+    good_client(first) & (good_client(second) & (good_client(third) & good_client(fourth)))
+}
+
+// 1, 10 or 16 where what is lent is not as it must be.
+fn test_number(yard: Yard, places: usize, units: &[u8]) -> u8
+    ensures { λ r. ⌜ r ≡ testNumber yard places (now (units .entry)) ⌝ }
+{
+    let held = yard.held;
+    let clients = yard.clients;
+    let memories = good_units(units);
+    let layouts = is_good(held) & good_clients(clients);
+    let table = pick(
+        (places != 32) | (32 < yard.count),
+        Answer::BAG_FULL,
+        Answer::FINE,
+    );
+    pick(
+        !memories,
+        Answer::MEMORY,
+        pick(!layouts, Answer::LAYOUT, table),
+    )
+}
+
+// The place of the letter that a step is about.
+pub(crate) fn place_of(s: Step) -> usize
+    ensures { λ r. ⌜ r ≡ placeOf s ⌝ }
+{
+    match s {
+        Step::Begin(_) => 0,
+        Step::Deliver(i, _, _) => size(i),
+        Step::Drop(i) => size(i),
+        Step::Stop(_) => 0,
+        Step::Restart(_) => 0,
+        Step::GiveUp(_) => 0,
+        Step::Forget => 0,
+    }
+}
+
+// The moves of a step over good memories; `l` is the letter at its place.
+fn chosen(yard: Yard, seq: Sequencer, l: Letter, units: &mut [u8], s: Step, job: Job) -> Moves
+    requires { ⌜ goodUnits 1 8 (now units) ≡ true ⌝ }
+    ensures { λ r. ⌜ Decided l (λ ls. step (worldOf yard seq ls (now (units .entry))) s job) (yard .count) (placeOf s) r (now (units .exit)) ⌝ }
+{
+    match s {
+        Step::Begin(c) => begins(yard, seq, c, job),
+        Step::Deliver(i, keeps, keeps_answer) => delivers(
+            yard,
+            seq,
+            units,
+            i,
+            keeps,
+            keeps_answer,
+            l,
+        ),
+        Step::Drop(i) => drops(yard, seq, i),
+        Step::Stop(u) => stops(yard, seq, u),
+        Step::Restart(c) => restarts(yard, seq, c),
+        Step::GiveUp(c) => gives_up(yard, seq, c),
+        Step::Forget => forgets(yard, seq),
+    }
+}
+
+// One of two places.
+fn place(first: bool, a: usize, b: usize) -> usize
+    ensures { λ r. ⌜ r ≡ cond first a b ⌝ }
+{
+    if first { a } else { b }
+}
+
+// Moves as places of a table.
+fn settle(m: Moves, places: usize, i: usize) -> Settled
+    requires { ⌜ countAfter (m .yard .count) (m .keeps) (m .posts) ≤ 255 ⌝ }
+    ensures { λ r. ⌜ r ≡ settling m places i ⌝ }
+{
+    let outcome = m.outcome;
+    let letter = m.letter;
+    let sequencer = m.sequencer;
+    let mut yard = m.yard;
+    let before = yard.count;
+    let count = size(before);
+    yard.count = count_after(before, m.keeps, m.posts) as u8;
+    let stepped = Stepped {
+        answer: m.answer,
+        who: m.who,
+        outcome,
+        yard,
+    };
+    Settled {
+        stepped,
+        sequencer,
+        count,
+        gone: place(m.keeps, count, i),
+        place: place(m.posts, left_of(before, m.keeps), places),
+        letter,
+    }
+}
+
+// What a refusal leaves alone.
+fn left_alone(yard: Yard, seq: Sequencer, places: usize, number: u8) -> Settled
+    ensures { λ r. ⌜ r ≡ settling (refusing yard seq number) places 0 ⌝ }
+{
+    settle(refused(yard, seq, number), places, 0)
+}
+
+pub(crate) fn decide(
+    yard: Yard,
+    seq: Sequencer,
+    places: usize,
+    l: Letter,
+    units: &mut [u8],
+    s: Step,
+    job: Job,
+) -> Settled
+    ensures { λ r. ⌜ Decides yard seq places l (now (units .entry)) s job r (now (units .exit)) ⌝ }
+{
+    let number = test_number(yard, places, units);
+    if number != 0 {
+        return left_alone(yard, seq, places, number);
+    }
+    let m = chosen(yard, seq, l, units, s, job);
+    settle(m, places, place_of(s))
+}
