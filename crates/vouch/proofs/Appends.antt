@@ -22,6 +22,7 @@ use Rattle.client.specs.Turn.{outcomeOf, rests, ends, otherwise}
 use Rattle.client.specs.Way.{headFor, tailFor, afterFor}
 use Rattle.vouch.specs.History.{History, MarkedBy}
 use Rattle.vouch.specs.History.Mark.{page}
+use Rattle.vouch.specs.History.PageNoted.{by-append}
 use Rattle.vouch.specs.Events.{Run}
 use Rattle.vouch.specs.Layouts.{mapOf}
 use Rattle.vouch.specs.Pages.{carried}
@@ -59,7 +60,7 @@ module _ {h : History} (run : Run h) (b c : Client) (life : c .life ≡ b .life)
   unfolding writes inStage
   writes-ok u n ok =
       sends-ok (inStage c (Writing u n)) (bearing (ask.Write u (c .layout .epoch) (c .position)) (c .page)) life used refl ok waits-write
-      (write-ok (write-vouches (ok .walk) (ok .asked)))
+      (write-ok (write-vouches (ok .walk) (by-append (ok .asked))))
 
 module _ {h : History} (run : Run h) (c : Client) where
   pub token-next : (n : ℕ) (a : Reply) → DrawingOk h (c .work) (c .layout) (carried (c .page)) → TurnOk h c (onToken c n a)

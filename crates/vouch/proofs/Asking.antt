@@ -1,6 +1,6 @@
 -- A begin: what the operation asks for is an event, and its client then vouches for its work.
 -- Rests on Turning.
-use mathlib.Core.Path.{_≡_, refl, ap}
+use mathlib.Core.Path.{_≡_, refl, sym, ap, subst}
 use mathlib.Core.Bool.{Bool, true, false, not, cond}
 use mathlib.Core.List.{List, [], _∷_}
 use Prim.Native.Nat.{ℕ, zero, suc, _≤_}
@@ -27,15 +27,16 @@ use Rattle.yard.specs.declared.state.Step.the-variants.{Begin}
 use Rattle.yard.specs.World.{World, isClient, clientAt, letterLimit}
 use Rattle.yard.specs.Serve.{kindOf, bytesOf}
 use Rattle.yard.specs.Steps.{refused, turned, beginNumber, begins, step}
-use Rattle.vouch.specs.Words.Page.{junk, bytes}
+use Rattle.vouch.specs.Words.Page.{bytes}
 use Rattle.vouch.specs.History.{Note, History, _⊑_, Noted, held}
-use Rattle.vouch.specs.History.Note.{store, trimAt, pruneTo}
+use Rattle.vouch.specs.History.Note.{append, fillAt, trimAt, pruneTo}
 use Rattle.vouch.specs.History.Event.{ask as asking}
 use Rattle.vouch.specs.History.History.{_▹_}
 use Rattle.vouch.specs.History._⊑_.{here, later}
 use Rattle.vouch.specs.History.Noted.{noted-now, noted-before}
+use Rattle.vouch.specs.History.PageNoted.{by-fill}
 use Rattle.vouch.specs.Events.Run.{run-step}
-use Rattle.vouch.specs.Pages.{carried}
+use Rattle.vouch.specs.Pages.{pageOf, carried}
 use Rattle.vouch.specs.Runs.{Move, Moves, world, Wants, Asked}
 use Rattle.vouch.specs.Runs.Moves.{_▸_}
 use Rattle.vouch.specs.Runs._≼_.{all-of}
@@ -60,9 +61,18 @@ take-padded (suc n) zero xs fits long = absurd (omega arith)
 take-padded (suc n) (suc m) [] fits long = absurd (omega arith)
 take-padded (suc n) (suc m) (x ∷ xs) fits long = ap (λ ys. x ∷ ys) (take-padded n m xs (omega arith) (omega arith))
 
-pub data-page : (n : ℕ) (xs : List ℕ) → n ≤ 32 → n ≤ length xs → carried (dataPage n xs) ≡ bytes (take n xs)
-unfolding dataPage kindOf bytesOf
-data-page n xs fits long = rw (le-leb n 32 fits) (ap bytes (take-padded n 32 xs fits long))
+pub data-bytes : (n : ℕ) (xs : List ℕ) → n ≤ 32 → n ≤ length xs → bytesOf (dataPage n xs) ≡ take n xs
+unfolding dataPage bytesOf
+data-bytes n xs fits long = rw (le-leb n 32 fits) (take-padded n 32 xs fits long)
+
+-- it is no junk
+data-carried : (n : ℕ) (xs : List ℕ) → carried (dataPage n xs) ≡ bytes (bytesOf (dataPage n xs))
+unfolding dataPage kindOf
+data-carried n xs = go (leb n 32)
+  where
+    go : (b : Bool) → pageOf (cond b 1 0) (bytesOf (dataPage n xs)) ≡ bytes (bytesOf (dataPage n xs))
+    go true = refl
+    go false = refl
 
 -- ---- an event `ask`
 
@@ -99,19 +109,19 @@ note-wants wants (noted-before noted) = either noted
 begun : (l : Layout) (ms : Moves) {h : History} {w : World} (j : Job) (u : Work) → Good l ms h w → j .work ≡ u → past u ≡ false → Begun l ms h w j u
 unfolding kindOf
 begun l ms {h} j work.Append good is low = record {
-  now = h ▹ asking (store (carried (dataPage (j .len) (j .bytes))));
+  now = h ▹ asking (append (bytes (bytesOf (dataPage (j .len) (j .bytes)))));
   part = later here;
-  good = asked-good (store (carried (dataPage (j .len) (j .bytes)))) good;
-  works = noted-now;
+  good = asked-good (append (bytes (bytesOf (dataPage (j .len) (j .bytes))))) good;
+  works = subst (λ X. Noted (h ▹ asking (append (bytes (bytesOf (dataPage (j .len) (j .bytes)))))) (append X)) (sym (data-carried (j .len) (j .bytes))) noted-now;
   notes = λ n. note-wants (wants-append is);
 }
 begun l ms {h} j (work.Read p) good is low =
     record { now = h; part = here; good = good; works = (refl, leb-false limit (p .0) low); notes = λ n. either }
 begun l ms {h} j (work.Fill p) good is low = record {
-  now = h ▹ asking (store junk);
+  now = h ▹ asking (fillAt (p .0));
   part = later here;
-  good = asked-good (store junk) good;
-  works = (noted-now, leb-false limit (p .0) low);
+  good = asked-good (fillAt (p .0)) good;
+  works = (by-fill noted-now, leb-false limit (p .0) low);
   notes = λ n. note-wants (wants-fill is);
 }
 begun l ms {h} j (work.Trim p) good is low = record {

@@ -1,13 +1,11 @@
 -- Demand 3's last sentence of every run of the yard, with no hypothesis but its conditions.
 -- Rests on Again, Soundness and Demand.
-use mathlib.Core.Path.{_≡_, refl, sym, ap, subst, _∙_}
+use mathlib.Core.Path.{_≡_, sym, subst}
 use mathlib.Core.Bool.{true}
 use Prim.Native.Nat.{ℕ, _≤_, _<_}
-use native.Mathlib.Omega.{arith}
 use Rattle.num.specs.Limits.{limit}
 use Rattle.num.specs.declared.count.Position.{Position}
 use Rattle.layout.specs.declared.value.Layout.{Layout}
-use Rattle.layout.specs.Lay.{Lay}
 use Rattle.layout.specs.Value.{layOf, goodValue}
 use Rattle.layout.specs.Places.{setAt, headOf}
 use Rattle.layout.proofs.Values.{value-of-good}
@@ -22,7 +20,7 @@ use Rattle.vouch.specs.History.Mark.{page}
 use Rattle.vouch.specs.Events.{Run}
 use Rattle.vouch.specs.Safety.{Answers, Settled}
 use Rattle.vouch.specs.Layouts.{mapOf}
-use Rattle.vouch.specs.Runs.{Move, Moves, _≼_, result, world, AppendDone}
+use Rattle.vouch.specs.Runs.{Move, Moves, _≼_, world, AppendDone}
 use Rattle.vouch.specs.Runs.Moves.{_▸_}
 use Rattle.vouch.specs.LastSentence.{Conditions, Again}
 use Rattle.vouch.proofs.Epochs.{laid-by, held-laid}
@@ -32,8 +30,7 @@ use Rattle.vouch.proofs.Walks.{head-serves}
 use Rattle.vouch.proofs.UnitIs.{UnitIs}
 use Rattle.vouch.proofs.Untouched.{not-marked}
 use Rattle.vouch.proofs.Writing.{empty-answers}
-use Rattle.vouch.proofs.Meaning.{AppendedOk}
-use Rattle.vouch.proofs.Together.{Good, client-range}
+use Rattle.vouch.proofs.Together.{client-range}
 use Rattle.vouch.proofs.Coming.{come, outcome-of}
 use Rattle.vouch.proofs.Demand.{demand-3}
 use Rattle.vouch.proofs.Forward.{Sound}

@@ -30,19 +30,22 @@ use Rattle.yard.specs.Steps.{refused, keeping, response, answerTo, unbrought, b
 use Rattle.vouch.specs.Words.{UnitNo, Pos, Epoch, Page, Answer}
 use Rattle.vouch.specs.Words.Answer.{shows}
 use Rattle.vouch.specs.Maps.{Map, Serves}
-use Rattle.vouch.specs.History.{History, MarkedBy, held}
-use Rattle.vouch.specs.History.Note.{store}
+use Rattle.vouch.specs.History.{History, PageNoted, MarkedBy, held}
+use Rattle.vouch.specs.History.Note.{append}
+use Rattle.vouch.specs.History.PageNoted.{by-append as noted-append, by-fill as noted-fill}
 use Rattle.vouch.specs.History.Mark.{page}
 use Rattle.vouch.specs.Events.{Run}
 use Rattle.vouch.specs.Safety.{GoneAsked, Answers as AnswersAt}
 use Rattle.vouch.specs.Safety.Answers.{has-page, has-gone, has-none}
 use Rattle.vouch.specs.Safety.GoneAsked.{by-trim as gone-by-trim, by-prune as gone-by-prune}
-use Rattle.vouch.specs.Runs.{Move, Moves, _≼_, result, world, Asked, AppendDone, ReadEnds, Reaches, InForce}
+use Rattle.vouch.specs.Runs.{Move, Moves, _≼_, result, world, Wants, Asked, AppendDone, ReadEnds, Reaches, InForce}
 use Rattle.vouch.specs.Runs.Moves.{_▸_}
-use Rattle.vouch.specs.Demand.{CutAsked, Rightly, Demand3, Reached, Spoken}
+use Rattle.vouch.specs.Runs.Wants.{wants-append}
+use Rattle.vouch.specs.Demand.{PageAsked, CutAsked, Rightly, Demand3, Reached, Spoken}
+use Rattle.vouch.specs.Demand.PageAsked.{by-append, by-fill}
 use Rattle.vouch.specs.Demand.CutAsked.{by-trim, by-prune}
 use Rattle.vouch.specs.Demand.Rightly.{that-page, trim-asked}
-use Rattle.vouch.proofs.Moments.{part-trans, noted-on}
+use Rattle.vouch.proofs.Moments.{part-trans, page-noted-on}
 use Rattle.vouch.proofs.Epochs.{laid-by, laid-good}
 use Rattle.vouch.proofs.Marks.{page-one, gone-asked}
 use Rattle.vouch.proofs.Settled.{settled-on, settled-later}
@@ -140,10 +143,18 @@ module _ (l : Layout) (good : goodValue l ≡ true) (first : l .epoch .0 ≡ 1) 
       let r₂ = read-was read₂ in
       safe (runs ms) .reads-agree (part-trans (r₁ .past) (come-part l good first part₁)) (part-trans (r₂ .past) (come-part l good first part₂)) (r₁ .read) (r₂ .read)
 
-  page-was-asked : {ms : Moves} {m : Move} {p : Pos} {e : Epoch} {X : Page} → ReadEnds l ms m p e (shows X) → Asked l (ms ▸ m) (store X)
-  page-was-asked {ms} {m} {X = X} read =
+  -- an append asks for bytes
+  of-append : {ms : Moves} {p : Pos} {X : Page} (j : Job) → Wants j (append X) → Asked l ms (append X) → PageAsked l ms p X
+  of-append j (wants-append is) asked = by-append asked
+
+  asked-for : {ms : Moves} {p : Pos} {X : Page} → PageNoted (at ms) p X → PageAsked l ms p X
+  asked-for {ms} (noted-append noted) = let asked = come l good first ms .asked _ noted in of-append (asked .move .job) (asked .wants) asked
+  asked-for {ms} (noted-fill noted) = by-fill (come l good first ms .asked _ noted)
+
+  page-was-asked : {ms : Moves} {m : Move} {p : Pos} {e : Epoch} {X : Page} → ReadEnds l ms m p e (shows X) → PageAsked l (ms ▸ m) p X
+  page-was-asked {ms} {m} read =
       let r = read-was read in
-      come l good first (ms ▸ m) .asked (store X) (noted-on (r .past) (safe (runs (ms ▸ m)) .read-asked (r .past) (r .read)))
+      asked-for (page-noted-on (r .past) (safe (runs (ms ▸ m)) .read-asked (r .past) (r .read)))
 
   cut-asked : {ms : Moves} {p : Pos} → GoneAsked (at ms) p → CutAsked l ms p
   cut-asked {ms} (gone-by-trim asked) = by-trim (come l good first ms .asked _ asked)
@@ -251,8 +262,8 @@ module _ (l : Layout) (good : goodValue l ≡ true) (first : l .epoch .0 ≡ 1) 
         };
       }
 
-  append-asked : {ms : Moves} {m : Move} {p : Pos} {X : Page} → AppendDone l ms m p X → Asked l (ms ▸ m) (store X)
-  append-asked {ms} {m} {X = X} done = come l good first (ms ▸ m) .asked (store X) (append-was done .asked)
+  append-asked : {ms : Moves} {m : Move} {p : Pos} {X : Page} → AppendDone l ms m p X → Asked l (ms ▸ m) (append X)
+  append-asked {ms} {m} {X = X} done = come l good first (ms ▸ m) .asked (append X) (append-was done .asked)
 
   pub spoken : Spoken l
   spoken = record { read-reached = read-reaches; done-asked = append-asked }

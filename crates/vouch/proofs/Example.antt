@@ -17,10 +17,11 @@ use Rattle.vouch.specs.Words.Rising.{rising-none, rising-more}
 use Rattle.vouch.specs.Words.Answer.{shows, unwritten}
 use Rattle.vouch.specs.Maps.{Map, Has, Serves, Good, Renewed, Successor}
 use Rattle.vouch.specs.History.{History, Laid, MarkedBy, Unmarked, held, sealed}
-use Rattle.vouch.specs.History.Note.{store}
+use Rattle.vouch.specs.History.Note.{append}
 use Rattle.vouch.specs.History.Event.{ask, write, seal, install}
 use Rattle.vouch.specs.History.History.{fresh, _▹_}
 use Rattle.vouch.specs.History.Noted.{noted-now, noted-before}
+use Rattle.vouch.specs.History.PageNoted.{by-append}
 use Rattle.vouch.specs.History.Laid.{laid-first, laid-now, laid-before}
 use Rattle.vouch.specs.History.Mark.{page}
 use Rattle.vouch.specs.History.Marked.{marked-write}
@@ -119,7 +120,7 @@ follower = record {
 
 module _ (X Y : Page) where
   abbrev asked : History
-  asked = fresh one ▹ ask (store X) ▹ ask (store Y)
+  asked = fresh one ▹ ask (append X) ▹ ask (append Y)
 
   -- X is at its head; then units 1 and 3 are sealed
   abbrev begun : History
@@ -162,7 +163,7 @@ module _ (X Y : Page) where
   -- ---- each event may come
 
   run-asked : Run asked
-  run-asked = run-step {ev = ask (store Y)} (run-step {ev = ask (store X)} (run-fresh one-good refl) tt) tt
+  run-asked = run-step {ev = ask (append Y)} (run-step {ev = ask (append X)} (run-fresh one-good refl) tt) tt
 
   run-begun : Run begun
   unfolding sealed
@@ -170,7 +171,7 @@ module _ (X Y : Page) where
     takes = record { laid = laid-before (laid-before laid-first); has = first; unsealed = omega arith };
     unmarked = asked-empty 1 0 0 (omega arith);
     above = λ v before. absurd (head-first (one-good .set-rises 0) before);
-    asked = noted-before noted-now;
+    asked = by-append (noted-before noted-now);
   })
 
   seal-one : MaySeal begun 1 1
@@ -209,12 +210,12 @@ module _ (X Y : Page) where
     takes = record { laid = laid-now; has = first; unsealed = omega arith };
     unmarked = unmarked-on (edge-one 1 (omega arith));
     above = λ v before. absurd (head-first (two-good .set-rises 1) before);
-    asked = noted-before (noted-before (noted-before (noted-before noted-now)));
+    asked = by-append (noted-before (noted-before (noted-before (noted-before noted-now))));
   })) (record {
     takes = record { laid = laid-before laid-now; has = next first; unsealed = omega arith };
     unmarked = other (λ same. omega (arith, same .0)) (unmarked-on (edge-else 3 (omega arith) 1 (omega arith)));
     above = λ v before. second-has (record { epoch = 2; by = omega arith; marked = marked-write }) before;
-    asked = noted-before (noted-before (noted-before (noted-before (noted-before noted-now))));
+    asked = by-append (noted-before (noted-before (noted-before (noted-before (noted-before noted-now)))));
   })
 
   laid-one-still : Laid reopened one
@@ -232,7 +233,7 @@ module _ (X Y : Page) where
     takes = takes-late;
     unmarked = unmarked-end (omega arith) (λ same. omega arith);
     above = λ v before. second-has head-had before;
-    asked = noted-before (noted-before (noted-before (noted-before (noted-before (noted-before (noted-before noted-now))))));
+    asked = by-append (noted-before (noted-before (noted-before (noted-before (noted-before (noted-before (noted-before noted-now)))))));
   })
 
   -- ---- reads

@@ -21,7 +21,7 @@ use Rattle.client.specs.declared.turn.Act.{Act}
 use Rattle.client.specs.declared.turn.Act.the-variants.{Rests, Sends, Ends}
 use Rattle.client.specs.declared.turn.Turn.{Turn}
 use Rattle.client.specs.Client.{fresh, lastNumber}
-use Rattle.client.specs.Turn.{numbered, next, sent, sends}
+use Rattle.client.specs.Turn.{numbered, next, sends}
 use Rattle.client.specs.Take.{answered, awaited, takes}
 use Rattle.yard.specs.declared.letter.Letter.{Letter}
 use Rattle.yard.specs.World.{World, isClient, clientAt, blankLetter}

@@ -1,97 +1,126 @@
--- A yard that meets the conditions of the last sentence, so that they do not speak of nothing: a page lies at 0 on units 1 and 2, and unit 2, the tail, has stopped.
--- Client 1 reorganises; the new layout has unit 1 alone, and a read of 0 ends with the page.
--- Rests on LastSentence.
-use mathlib.Core.Path.{_≡_, refl}
-use mathlib.Core.Bool.{true, false}
-use mathlib.Core.List.{[], _∷_}
-use Prim.Native.Nat.{ℕ, zero, suc, _≤_, _<_}
+-- A run in which a unit stops and the page is answered again: client 1's append is done at 0 on units 1 and 2; unit 2, the tail, stops; client 2's read finds
+-- nobody, and it gives up. Then the yard meets the conditions of the last sentence; client 1 reorganises, and its read of 0 ends with the page, from unit 1 alone.
+-- Rests on RunExample and Closing.
+use mathlib.Core.Path.{_≡_, refl, sym, ap, subst}
+use mathlib.Core.Bool.{Bool, true, false}
+use mathlib.Core.List.{List, [], _∷_}
+use Prim.Native.Nat.{ℕ, zero, suc, _<_}
 use native.Mathlib.Omega.{arith}
 use lib.ListN.{length, getD, replicate}
-use Rattle.layout.specs.Lay.{Lay, good, goodSet, goodSets, goodSpans, firstAtZero, used, rising, _in?_, inSets, usedFrom, unitsOf}
-use Rattle.layout.specs.Value.{layOf, valueOf, padded}
-use Rattle.layout.specs.Places.{placed, setNumber, setAt, tailOf}
-use Rattle.layout.specs.Plan.{planned, without}
-use Rattle.layout.proofs.Values.{value-is-good}
-use Rattle.unit.specs.Shape.{small}
-use Rattle.unit.specs.State.{State, lookup}
-use Rattle.unit.specs.State.{page as slot}
-use Rattle.unit.specs.Memory.{valid, validSlots}
-use Rattle.unit.specs.Unit.{freshUnit, readSays}
-use Rattle.client.specs.Client.{fresh, idle}
-use Rattle.yard.specs.World.{World, unitAt}
-use Rattle.vouch.specs.LastSentence.{stoppedFrom, WorkingUnit, Conditions, unitCount, tailSays, Answerable}
-use Rattle.vouch.proofs.Forward.{Sound}
-use Rattle.vouch.proofs.LastSentence.{last-sentence}
+use Rattle.layout.specs.Lay.{rising, goodSet, goodSets, goodSpans, firstAtZero, used, good, _in?_, inSets, usedFrom, unitsOf}
+use Rattle.layout.specs.Value.{padded, layOf, valueOf, zeros, tidyChain, tidyChains, blankRanges, tidy, goodValue}
+use Rattle.layout.specs.Places.{placed, setNumber, setAt, headOf, tailOf, after, above, placeAnswer, unitsAt}
+use Rattle.layout.specs.Plan.{without, badDrops, emptied, planned, lastStart, goodChains, reorganiseAnswer, plannedFor, isOpen, settleAnswer, settled, settledFirst, startedAt}
+use Rattle.layout.specs.Holder.{offerAnswer, offeredTo, fetchedFrom}
+use Rattle.layout.specs.Successor.{sublist, keepsSets, keepsSpans, lawful}
+use Rattle.unit.specs.State.{lookup, insert, lastEnd, edge}
+use Rattle.unit.specs.Unit.{writeSays, written, writeUnit, readSays, readShows, sealSays, sealTells, sealedAt, sealUnit}
+use Rattle.sequencer.specs.Rules.{number, position, told, after as sequencer-after}
+use Rattle.client.specs.declared.state.Work.the-variants.{Append, Read}
+use Rattle.client.specs.declared.state.Stage.the-variants.{Idle}
+use Rattle.client.specs.declared.state.Job.{Job}
+use Rattle.client.specs.Client.{idle, inStage, atPosition, holding, planning, jobOf, reorganiseOf, noChange}
+use Rattle.client.specs.Turn.{outcomeOf, over, ends, numbered, sends}
+use Rattle.client.specs.Way.{headFor, tailFor, afterFor, unitAbove, planFor, startFor}
+use Rattle.client.specs.Append.{draws, writes, writesAt, onToken, writesOn, onWritten}
+use Rattle.client.specs.Read.{reads, onRead}
+use Rattle.client.specs.Job.{dataPage}
+use Rattle.client.specs.Begin.{beginAnswer, withJob, beginTurn, giveUp}
+use Rattle.client.specs.Take.{goesOn, holds, onFetched, answered, awaited, takes}
+use Rattle.client.specs.Reorganise.{seals, offers, allSealed, sealsOn, reorganises, larger, sealedAt as client-sealed-at, onSealed, starts, onOffered, onStarted}
+use Rattle.yard.specs.declared.state.Step.{Step}
+use Rattle.yard.specs.declared.state.Step.the-variants.{Drop, Stop, GiveUp}
+use Rattle.yard.specs.World.{clientAt}
+use Rattle.yard.specs.Steps.{without as letters-without, turned, beginNumber, begins, served, taken, delivered, delivers, drops, stops, givesUp, step}
+use Rattle.yard.specs.Serve.{kindOf, bytesOf, pageOf, shown, edged, asking, fetching, offeringTo, serve}
+use Rattle.yard.specs.Fresh.{freshUnits, freshWorld}
+use Rattle.vouch.specs.Words.Page.{bytes}
+use Rattle.vouch.specs.Words.Answer.{shows}
+use Rattle.vouch.specs.Runs.{Move, Moves, result, world, ReadEnds}
+use Rattle.vouch.specs.Runs.Moves.{_▸_}
+use Rattle.vouch.specs.Runs._≼_.{all-of, part-of}
+use Rattle.vouch.specs.Runs.Returns.{returns-page}
+use Rattle.vouch.specs.LastSentence.{stoppedFrom, WorkingUnit, Conditions, unitCount, Again}
+use Rattle.vouch.proofs.Closing.{answerable-again}
+use Rattle.vouch.proofs.RunExample.{l, l-good, deliver, begin, appending, append-done}
 
-abbrev lay : Lay
-lay = record { epoch = 1; sets = (1 ∷ 2 ∷ []) ∷ []; spans = record { start = 0; uses = 1 } ∷ [] }
+abbrev step-of : Step → Move
+step-of s = record { does = s; job = jobOf Append }
 
--- a unit that has the page
-abbrev has-page : ℕ → State
-has-page u = record { number = u; sealed = 0; floor = 0; slots = slot 0 1 (7 ∷ []) ∷ [] }
+abbrev read : Job
+read = jobOf (Read (record { 0 = 0 }))
 
-abbrev w : World
-w = record {
-  held = valueOf lay;
-  clients = replicate 4 fresh;
-  stopped = false ∷ true ∷ replicate 6 false;
-  units = has-page 1 ∷ has-page 2 ∷ freshUnit 3 ∷ freshUnit 4 ∷ freshUnit 5 ∷ freshUnit 6 ∷ freshUnit 7 ∷ freshUnit 8 ∷ [];
-  sequencer = record { epoch = record { 0 = 1 }; next = record { 0 = 1 } };
-  letters = [];
-}
+-- unit 2 has stopped, and the request to read it lies in the bag
+abbrev stuck : Moves
+stuck = appending ▸ deliver ▸ step-of (Stop 2) ▸ begin 2 read ▸ deliver ▸ deliver
 
-lay-good : good lay ≡ true
-unfolding good goodSets goodSet rising firstAtZero goodSpans used
-lay-good = refl
+abbrev left : Moves
+left = stuck ▸ deliver ▸ step-of (GiveUp 2) ▸ step-of (Drop 0)
 
-eight : (P : ℕ → Type 0) → P 1 → P 2 → P 3 → P 4 → P 5 → P 6 → P 7 → P 8 → (u : ℕ) → 1 ≤ u → u ≤ 8 → P u
-eight P a b c d e f g h zero low high = absurd (omega arith)
-eight P a b c d e f g h (suc zero) low high = a
-eight P a b c d e f g h (suc (suc zero)) low high = b
-eight P a b c d e f g h (suc (suc (suc zero))) low high = c
-eight P a b c d e f g h (suc (suc (suc (suc zero)))) low high = d
-eight P a b c d e f g h (suc (suc (suc (suc (suc zero))))) low high = e
-eight P a b c d e f g h (suc (suc (suc (suc (suc (suc zero)))))) low high = f
-eight P a b c d e f g h (suc (suc (suc (suc (suc (suc (suc zero))))))) low high = g
-eight P a b c d e f g h (suc (suc (suc (suc (suc (suc (suc (suc zero)))))))) low high = h
-eight P a b c d e f g h (suc (suc (suc (suc (suc (suc (suc (suc (suc u))))))))) low high = absurd (omega arith)
+-- layout, unit 1's seal, offer, start; then layout and tail
+abbrev reading-again : Moves
+reading-again =
+    left ▸ begin 1 (reorganiseOf (record { count = 1; drops = 2 ∷ replicate 7 0; wish = noChange .wish }))
+    ▸ deliver ▸ deliver ▸ deliver ▸ deliver ▸ deliver ▸ deliver ▸ deliver ▸ deliver ▸ begin 1 read ▸ deliver ▸ deliver ▸ deliver
 
-sound : Sound w
-unfolding valid validSlots valueOf
-sound = record {
-  held-good = value-is-good lay lay-good;
-  four-clients = refl;
-  eight-stopped = refl;
-  eight-units = refl;
-  unit-valid = eight (λ u. valid small (unitAt w u) ≡ true) refl refl refl refl refl refl refl refl;
-  unit-low = eight (λ u. unitAt w u .sealed ≤ 1) (omega arith) (omega arith) (omega arith) (omega arith) (omega arith) (omega arith) (omega arith) (omega arith);
-  sequencer-low = omega arith;
-}
+-- the yard that is left, as far as the conditions speak of it
+record Left : Type 0 where
+  nobody : result (world l stuck) deliver .answer ≡ 17
+  idle-there : clientAt (world l left) 1 .stage ≡ Idle
+  used-there : clientAt (world l left) 1 .used .0 ≡ 4
+  letters-there : world l left .letters ≡ []
+  epoch-there : world l left .held .epoch .0 ≡ 1
+  sets-there : layOf (world l left .held) .sets ≡ (1 ∷ 2 ∷ []) ∷ []
+  stopped-there : world l left .stopped ≡ false ∷ true ∷ replicate 6 false
+  units-there : unitCount (world l left) ≡ 1
 
-one-unit : unitCount w ≡ 1
-unfolding planned without unitsOf usedFrom inSets _in?_ layOf valueOf padded stoppedFrom
-one-unit = refl
+-- by the rules, computed
+computed : Left × ReadEnds l reading-again deliver 0 2 (shows (bytes (7 ∷ [])))
+unfolding rising goodSet goodSets goodSpans firstAtZero used good _in?_ inSets usedFrom unitsOf padded layOf valueOf zeros tidyChain tidyChains blankRanges tidy goodValue placed setNumber setAt headOf tailOf after above placeAnswer unitsAt without badDrops emptied planned lastStart goodChains reorganiseAnswer plannedFor isOpen settleAnswer settled settledFirst startedAt offerAnswer offeredTo fetchedFrom sublist keepsSets keepsSpans lawful lookup insert lastEnd edge writeSays written writeUnit readSays readShows sealSays sealTells sealedAt sealUnit number position told sequencer-after idle inStage atPosition holding planning outcomeOf over ends numbered sends headFor tailFor afterFor unitAbove planFor startFor reads onRead draws writes writesAt onToken writesOn onWritten dataPage beginAnswer withJob beginTurn giveUp goesOn holds onFetched answered awaited takes seals offers allSealed sealsOn reorganises larger client-sealed-at onSealed starts onOffered onStarted letters-without turned beginNumber begins served taken delivered delivers drops stops givesUp step kindOf bytesOf pageOf shown edged asking fetching offeringTo serve freshUnits freshWorld world stoppedFrom
+computed = (
+  record {
+    nobody = refl;
+    idle-there = refl;
+    used-there = refl;
+    letters-there = refl;
+    epoch-there = refl;
+    sets-there = refl;
+    stopped-there = refl;
+    units-there = refl;
+  },
+  record {
+    client = 1;
+    position = record { 0 = 0 };
+    ends = record { is-client = refl; was-busy = refl; work-is = refl; who-is = refl };
+    position-is = refl;
+    epoch-is = refl;
+    returns = returns-page refl;
+  },
+)
 
-works : (k : ℕ) → k < length (layOf (w .held) .sets) → WorkingUnit (w .stopped) (getD (layOf (w .held) .sets) k [])
-unfolding layOf valueOf padded _in?_
+pub answered-again : ReadEnds l reading-again deliver 0 2 (shows (bytes (7 ∷ [])))
+answered-again = computed .1
+
+works : (k : ℕ) → k < 1 → WorkingUnit (false ∷ true ∷ replicate 6 false) (getD ((1 ∷ 2 ∷ []) ∷ []) k [])
+unfolding _in?_
 works zero lt = record { unit = 1; inside = refl; works = refl }
 works (suc k) lt = absurd (omega arith)
 
-conditions : Conditions w 1
-unfolding idle valueOf
-conditions = record {
-  is-client = refl;
-  is-idle = refl;
-  few-letters = omega arith;
-  numbers-left = omega (arith, one-unit);
-  epoch-left = omega arith;
-  set-works = works;
-}
+-- the conditions of the last sentence do not speak of nothing
+pub conditions : Conditions (world l left) 1
+conditions =
+    let there = computed .0 in
+    record {
+      is-client = refl;
+      is-idle = there .idle-there;
+      few-letters = omega (arith, ap length (there .letters-there));
+      numbers-left = omega (arith, there .used-there, there .units-there);
+      epoch-left = omega (arith, there .epoch-there);
+      set-works =
+          subst (λ (sets : List (List ℕ)). (k : ℕ) → k < length sets → WorkingUnit (world l left .stopped) (getD sets k [])) (sym (there .sets-there))
+          (subst (λ (stopped : List Bool). (k : ℕ) → k < 1 → WorkingUnit stopped (getD ((1 ∷ 2 ∷ []) ∷ []) k [])) (sym (there .stopped-there)) works);
+    }
 
-pub answerable : Answerable w 1 (record { 0 = 0 })
-answerable = last-sentence w 1 sound conditions (record { 0 = 0 }) (omega arith)
-
--- the read finds the page
-pub page-there : tailSays w 0 ≡ 0
-unfolding planned without _in?_ layOf valueOf padded stoppedFrom placed setNumber setAt tailOf readSays lookup
-page-there = refl
+pub again : Again l left 1 (record { 0 = 0 }) (bytes (7 ∷ []))
+unfolding valueOf
+again = answerable-again l l-good refl append-done (part-of (part-of (part-of (part-of (part-of (part-of (part-of all-of))))))) conditions

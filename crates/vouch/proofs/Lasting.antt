@@ -17,7 +17,7 @@ use Rattle.vouch.specs.History.{History, _⊑_, Mark, held}
 use Rattle.vouch.specs.History._⊑_.{here, later}
 use Rattle.vouch.specs.Events.{Run}
 use Rattle.vouch.specs.Events.Run.{run-step}
-use Rattle.vouch.proofs.Moments.{part-trans, noted-on, laid-on, by-on}
+use Rattle.vouch.proofs.Moments.{part-trans, noted-on, page-noted-on, laid-on, by-on}
 use Rattle.vouch.proofs.Epochs.{held-rises}
 use Rattle.vouch.proofs.Edges.{seal-stays}
 use Rattle.vouch.proofs.Offers.{OfferOk}
@@ -54,7 +54,7 @@ module _ {h₁ h₂ : History} (run : Run h₂) (part : h₁ ⊑ h₂) where
     epoch-is = ok .epoch-is;
     serves = ok .serves;
     above = λ v before. by-on part (ok .above v before);
-    asked = noted-on part (ok .asked);
+    asked = page-noted-on part (ok .asked);
   })
   ask-on (look-ok ok) = look-ok (record { by = ok .by; laid = laid-on part (ok .laid); epoch-is = ok .epoch-is; serves = ok .serves })
   ask-on (trim-ok ok) = trim-ok (record {
@@ -105,7 +105,7 @@ module _ {h₁ h₂ : History} (run : Run h₂) (part : h₁ ⊑ h₂) where
   work-on : (w : Work) (p : Position) (g : PageValue) → WorkOk h₁ w p g → WorkOk h₂ w p g
   work-on work.Append p g ok = noted-on part ok
   work-on (work.Read q) p g ok = ok
-  work-on (work.Fill q) p g (asked, low) = (noted-on part asked, low)
+  work-on (work.Fill q) p g (asked, low) = (page-noted-on part asked, low)
   work-on (work.Trim q) p g (asked, low) = (noted-on part asked, low)
   work-on (work.Prune q) p g ok = noted-on part ok
   work-on work.Reorganise p g ok = tt
@@ -122,7 +122,7 @@ module _ {h₁ h₂ : History} (run : Run h₂) (part : h₁ ⊑ h₂) where
   stage-on c (Drawing n) ok = record { is-append = ok .is-append; fetched = fetched-on (ok .fetched); asked = noted-on part (ok .asked) }
   stage-on c (Writing u n) ok = record { is-append = ok .is-append; walk = walking-on (ok .walk); asked = noted-on part (ok .asked) }
   stage-on c (Reading u) ok = record { is-read = ok .is-read; fetched = fetched-on (ok .fetched); low = ok .low; is-tail = ok .is-tail }
-  stage-on c (Filling u) ok = record { filled = ok .filled; is-fill = ok .is-fill; walk = walking-on (ok .walk); asked = noted-on part (ok .asked) }
+  stage-on c (Filling u) ok = record { filled = ok .filled; is-fill = ok .is-fill; walk = walking-on (ok .walk); asked = page-noted-on part (ok .asked) }
   stage-on c (Looking u) ok = record { filled = ok .filled; is-fill = ok .is-fill; fetched = fetched-on (ok .fetched); low = ok .low; serves = ok .serves; is-head = ok .is-head }
   stage-on c (Trimming u) ok = record { trimmed-at = ok .trimmed-at; is-trim = ok .is-trim; walk = walking-on (ok .walk); asked = noted-on part (ok .asked) }
   stage-on c (Pruning u) ok = record {

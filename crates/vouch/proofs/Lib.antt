@@ -44,6 +44,7 @@ pub mod Taking
 pub mod Ending
 pub mod Demand
 pub mod RunExample
+pub mod AcrossExample
 pub mod Numbered
 pub mod Lending
 pub mod Exchange
@@ -55,7 +56,7 @@ pub mod Installing
 pub mod Reorganising
 pub mod LastSentence
 pub mod Retold
-pub mod LastExample
 pub mod Again
 pub mod Soundness
 pub mod Closing
+pub mod LastExample

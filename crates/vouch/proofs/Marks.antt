@@ -5,16 +5,17 @@ use Prim.Native.Nat.{suc, _≤_}
 use native.Mathlib.Omega.{arith}
 use Rattle.vouch.specs.Words.{UnitNo, Pos, Epoch, Page}
 use Rattle.vouch.specs.Maps.{Map}
-use Rattle.vouch.specs.History.{Event, History, Noted, Mark, Marked, sealed}
-use Rattle.vouch.specs.History.Note.{store}
+use Rattle.vouch.specs.History.{Event, History, PageNoted, Mark, Marked, sealed}
 use Rattle.vouch.specs.History.History.{fresh, _▹_}
 use Rattle.vouch.specs.History.Noted.{noted-before}
+use Rattle.vouch.specs.History._⊑_.{here, later}
 use Rattle.vouch.specs.History.Mark.{page, gone}
 use Rattle.vouch.specs.History.Marked.{marked-write, marked-trim, marked-prune, marked-before}
 use Rattle.vouch.specs.Events.{Takes, May, Run}
 use Rattle.vouch.specs.Events.Run.{run-fresh, run-step}
 use Rattle.vouch.specs.Safety.{GoneAsked}
 use Rattle.vouch.specs.Safety.GoneAsked.{by-trim, by-prune}
+use Rattle.vouch.proofs.Moments.{page-noted-on}
 use Rattle.vouch.proofs.Epochs.{sealed-rises, takes-one}
 
 -- ---- marks, one event later
@@ -52,10 +53,10 @@ page-one (run-step run may) marked-write (marked-before mk) = absurd (may .unmar
 page-one (run-step run may) (marked-before mk) marked-write = absurd (may .unmarked _ _ mk)
 page-one (run-step run may) (marked-before mk₁) (marked-before mk₂) = page-one run mk₁ mk₂
 
--- a page was asked for,
-pub page-asked : {h : History} {u : UnitNo} {p : Pos} {X : Page} {a : Epoch} → Run h → Marked h u p (page X) a → Noted h (store X)
-page-asked (run-step run may) marked-write = noted-before (may .asked)
-page-asked (run-step run may) (marked-before mk) = noted-before (page-asked run mk)
+-- a page was asked for, by an append or by a fill of its position,
+pub page-asked : {h : History} {u : UnitNo} {p : Pos} {X : Page} {a : Epoch} → Run h → Marked h u p (page X) a → PageNoted h p X
+page-asked (run-step run may) marked-write = page-noted-on (later here) (may .asked)
+page-asked (run-step run may) (marked-before mk) = page-noted-on (later here) (page-asked run mk)
 
 -- and so was a trim or a prune
 gone-asked-on : {h : History} {ev : Event} {p : Pos} → GoneAsked h p → GoneAsked (h ▹ ev) p

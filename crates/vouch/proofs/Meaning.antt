@@ -28,8 +28,8 @@ use Rattle.yard.specs.Serve.{bare}
 use Rattle.vouch.specs.Words.{UnitNo, Pos, Epoch, Page, Answer, Before, Last}
 use Rattle.vouch.specs.Words.Answer.{shows, trimmed, unwritten}
 use Rattle.vouch.specs.Maps.{Map, Has, Serves}
-use Rattle.vouch.specs.History.{History, _⊑_, Noted, Laid, Mark, MarkedBy, held}
-use Rattle.vouch.specs.History.Note.{store, trimAt, pruneTo}
+use Rattle.vouch.specs.History.{History, _⊑_, Noted, PageNoted, Laid, Mark, MarkedBy, held}
+use Rattle.vouch.specs.History.Note.{append, trimAt, pruneTo}
 use Rattle.vouch.specs.History.Mark.{page, gone}
 use Rattle.vouch.specs.Events.{Takes}
 use Rattle.vouch.specs.Edges.{SealAnswer}
@@ -48,7 +48,7 @@ pub record WriteOk (h : History) (u : UnitNo) (e : Epoch) (p : Pos) (X : Page) :
   pub epoch-is : by .epoch ≡ e
   pub serves : Serves by p u
   pub above : (v : UnitNo) → Before v u (by .set p) → MarkedBy h v p (page X) e
-  pub asked : Noted h (store X)
+  pub asked : PageNoted h p X
 
 pub record TrimOk (h : History) (u : UnitNo) (e : Epoch) (p : Pos) : Type 0 where
   pub by : Map
@@ -132,9 +132,9 @@ pub data Means (h : History) : Ask → PageValue → Layout → Response → Typ
 
 -- what its work asked for; g is the page that it carries, p the position under way
 abbrev pub WorkOk : History → Work → Position → PageValue → Type 0
-WorkOk h work.Append p g = Noted h (store (carried g))
+WorkOk h work.Append p g = Noted h (append (carried g))
 WorkOk h (work.Read q) p g = (p ≡ q) × (p .0 < limit)
-WorkOk h (work.Fill q) p g = Noted h (store (carried g)) × (p .0 < limit)
+WorkOk h (work.Fill q) p g = PageNoted h (p .0) (carried g) × (p .0 < limit)
 WorkOk h (work.Trim q) p g = Noted h (trimAt (p .0)) × (p .0 < limit)
 WorkOk h (work.Prune q) p g = Noted h (pruneTo (p .0))
 WorkOk h work.Reorganise p g = Unit {0}
@@ -154,12 +154,12 @@ pub record Walking (h : History) (l : Layout) (p : Pos) (u : UnitNo) (m : Mark) 
 pub record DrawingOk (h : History) (w : Work) (l : Layout) (X : Page) : Type 0 where
   pub is-append : w ≡ work.Append
   pub fetched : Fetched h l
-  pub asked : Noted h (store X)
+  pub asked : Noted h (append X)
 
 pub record WritingOk (h : History) (w : Work) (l : Layout) (p : Pos) (X : Page) (u : UnitNo) : Type 0 where
   pub is-append : w ≡ work.Append
   pub walk : Walking h l p u (page X)
-  pub asked : Noted h (store X)
+  pub asked : Noted h (append X)
 
 pub record ReadingOk (h : History) (w : Work) (l : Layout) (p : Position) (u : UnitNo) : Type 0 where
   pub is-read : w ≡ work.Read p
@@ -171,7 +171,7 @@ pub record FillingOk (h : History) (w : Work) (l : Layout) (p : Pos) (X : Page) 
   pub filled : Position
   pub is-fill : w ≡ work.Fill filled
   pub walk : Walking h l p u (page X)
-  pub asked : Noted h (store X)
+  pub asked : PageNoted h p X
 
 -- u is the head
 pub record LookingOk (h : History) (w : Work) (l : Layout) (p : Pos) (u : UnitNo) : Type 0 where
@@ -250,7 +250,7 @@ WaitsFor c = Waits (c .layout) (c .position) (c .page) (c .plan) (c .stage)
 pub record AppendedOk (h : History) (p : Pos) (X : Page) : Type 0 where
   pub by : Map
   pub settled : Settled h by p (page X)
-  pub asked : Noted h (store X)
+  pub asked : Noted h (append X)
 
 -- at some moment up to now a read of p by a layout of epoch e was answered r by the tail
 pub record WasRead (h : History) (p : Pos) (e : Epoch) (r : Answer) : Type 0 where

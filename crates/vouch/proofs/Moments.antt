@@ -2,12 +2,13 @@
 -- Rests on specs/History and specs/Events.
 use Prim.Native.Nat.{_≤_}
 use native.Mathlib.Omega.{arith}
-use Rattle.vouch.specs.Words.{UnitNo, Pos, Epoch}
+use Rattle.vouch.specs.Words.{UnitNo, Pos, Epoch, Page}
 use Rattle.vouch.specs.Maps.{Map}
-use Rattle.vouch.specs.History.{Note, Event, History, _⊑_, Noted, Laid, Mark, MarkedBy}
+use Rattle.vouch.specs.History.{Note, Event, History, _⊑_, Noted, PageNoted, Laid, Mark, MarkedBy}
 use Rattle.vouch.specs.History.History.{_▹_}
 use Rattle.vouch.specs.History._⊑_.{here, later}
 use Rattle.vouch.specs.History.Noted.{noted-before}
+use Rattle.vouch.specs.History.PageNoted.{by-append, by-fill}
 use Rattle.vouch.specs.History.Laid.{laid-before}
 use Rattle.vouch.specs.History.Marked.{marked-before}
 use Rattle.vouch.specs.Events.{Run}
@@ -26,6 +27,10 @@ run-part (later part) (run-step run may) = run-part part run
 pub noted-on : {h₁ h₂ : History} {w : Note} → h₁ ⊑ h₂ → Noted h₁ w → Noted h₂ w
 noted-on here noted = noted
 noted-on (later part) noted = noted-before (noted-on part noted)
+
+pub page-noted-on : {h₁ h₂ : History} {p : Pos} {X : Page} → h₁ ⊑ h₂ → PageNoted h₁ p X → PageNoted h₂ p X
+page-noted-on part (by-append noted) = by-append (noted-on part noted)
+page-noted-on part (by-fill noted) = by-fill (noted-on part noted)
 
 pub laid-on : {h₁ h₂ : History} {L : Map} → h₁ ⊑ h₂ → Laid h₁ L → Laid h₂ L
 laid-on here laid = laid

@@ -7,8 +7,7 @@ use native.Mathlib.Decide.{decLe}
 use Rattle.vouch.specs.Words.{Pos, Page, Answer}
 use Rattle.vouch.specs.Words.Answer.{shows, trimmed}
 use Rattle.vouch.specs.Maps.{Map}
-use Rattle.vouch.specs.History.{History, _⊑_, Noted, Mark, MarkedBy, held}
-use Rattle.vouch.specs.History.Note.{store}
+use Rattle.vouch.specs.History.{History, _⊑_, PageNoted, Mark, MarkedBy, held}
 use Rattle.vouch.specs.History.Mark.{page, gone}
 use Rattle.vouch.specs.Events.{Run}
 use Rattle.vouch.specs.Safety.{Answers, Read, Settled, After, Safe}
@@ -58,7 +57,7 @@ module _ {h : History} (run : Run h) where
       go (yes le) = settled-agree (r₂ .tail) run le s₁ s₂ (last-in (r₂ .is-tail))
       go (no gt) = sym (settled-agree (r₁ .tail) run (omega arith) s₂ s₁ (last-in (r₁ .is-tail)))
 
-  asked : {h₁ : History} {L : Map} {p : Pos} {X : Page} → h₁ ⊑ h → Read h₁ L p (shows X) → Noted h₁ (store X)
+  asked : {h₁ : History} {L : Map} {p : Pos} {X : Page} → h₁ ⊑ h → Read h₁ L p (shows X) → PageNoted h₁ p X
   asked part r = page-asked (run-part part run) (page-settled (run-part part run) r .all (r .tail) (last-in (r .is-tail)) .marked)
 
   stays : {h₁ h₂ : History} {L₁ L₂ : Map} {p : Pos} {X : Page} {r : Answer} →

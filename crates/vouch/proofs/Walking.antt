@@ -13,8 +13,8 @@ use Rattle.layout.specs.Places.{setAt, headOf, after}
 use Rattle.layout.proofs.Values.{value-of-good}
 use Rattle.vouch.specs.Words.{UnitNo, Pos, Page, Before}
 use Rattle.vouch.specs.Maps.{Map, Has, Serves, Good}
-use Rattle.vouch.specs.History.{History, Noted, Mark, MarkedBy}
-use Rattle.vouch.specs.History.Note.{store, trimAt, pruneTo}
+use Rattle.vouch.specs.History.{History, Noted, PageNoted, Mark, MarkedBy}
+use Rattle.vouch.specs.History.Note.{trimAt, pruneTo}
 use Rattle.vouch.specs.History.Mark.{page, gone}
 use Rattle.vouch.specs.Safety.{Settled}
 use Rattle.vouch.specs.Layouts.{mapOf}
@@ -88,7 +88,7 @@ written-there {h} {l} {p} {u} run walk was not-head =
 above : {h : History} {l : Layout} {p : Pos} {u : UnitNo} {m : Mark} → Walking h l p u m → (v : UnitNo) → Before v u (setAt (layOf l) p) → MarkedBy h v p m (l .epoch .0)
 above {p = p} walk v before = walk .behind v (before-in before) (before-less (map-good (walk .fetched) .set-rises p) before)
 
-pub write-vouches : {h : History} {l : Layout} {p : Pos} {u : UnitNo} {X : Page} → Walking h l p u (page X) → Noted h (store X) → WriteOk h u (l .epoch .0) p X
+pub write-vouches : {h : History} {l : Layout} {p : Pos} {u : UnitNo} {X : Page} → Walking h l p u (page X) → PageNoted h p X → WriteOk h u (l .epoch .0) p X
 write-vouches {l = l} walk asked = record { by = mapOf (layOf l); laid = walk .fetched .laid; epoch-is = epoch-of l; serves = walk .serves; above = above walk; asked = asked }
 
 pub trim-vouches : {h : History} {l : Layout} {p : Pos} {u : UnitNo} → Walking h l p u gone → Noted h (trimAt p) → TrimOk h u (l .epoch .0) p

@@ -22,8 +22,7 @@ use Rattle.yard.specs.Serve.{saying}
 use Rattle.vouch.specs.Words.{UnitNo, Pos, Epoch, Page, Answer, Before}
 use Rattle.vouch.specs.Words.Answer.{shows, unwritten}
 use Rattle.vouch.specs.Maps.{Map, Has}
-use Rattle.vouch.specs.History.{Event, History, Noted, Laid, Marked, MarkedBy, sealed}
-use Rattle.vouch.specs.History.Note.{store}
+use Rattle.vouch.specs.History.{Event, History, PageNoted, Laid, Marked, MarkedBy, sealed}
 use Rattle.vouch.specs.History.Event.{write}
 use Rattle.vouch.specs.History.History.{_▹_}
 use Rattle.vouch.specs.History.Mark.{page}
@@ -95,7 +94,7 @@ module _ {h : History} {u : UnitNo} {M : State} {L : Map} {e : Epoch} (run : Run
       record { epoch = a; by = omega (arith, marked-to run mk, is .sealed-is); marked = subst (λ Z. Marked h u p (page Z) a) (sym same) mk }
 
   -- fine: the position was neither written nor trimmed
-  may-write : Noted h (store (pageOf kind payload)) → writeSays small M e p kind payload ≡ 0 → MayWrite h u L p (pageOf kind payload)
+  may-write : PageNoted h p (pageOf kind payload) → writeSays small M e p kind payload ≡ 0 → MayWrite h u L p (pageOf kind payload)
   may-write asked z = record {
     takes = takes-of is laid has at (write-finds small M e p kind payload z .unsealed);
     unmarked = not-marked (subst (λ r. Answers h u p r) (empty-answers (shown M p) (write-free small M e p kind payload z)) (is .shown-is p));
@@ -112,7 +111,7 @@ module _ {h : History} {u : UnitNo} {M : State} {L : Map} {e : Epoch} (run : Run
       (write-shows (may .unmarked))
       (λ q ne. (write-other small M e p kind payload q ne, λ t. ne (sym (write-touches t .1))))
 
-  pub write-does : Noted h (store (pageOf kind payload)) → WriteDone h u L p (pageOf kind payload) e (writeUnit small M e p kind payload) (saying (writeSays small M e p kind payload))
+  pub write-does : PageNoted h p (pageOf kind payload) → WriteDone h u L p (pageOf kind payload) e (writeUnit small M e p kind payload) (saying (writeSays small M e p kind payload))
   write-does asked = go (writeSays small M e p kind payload) refl (write-tells small M e p kind payload)
     where
       still : {n : ℕ} → writeSays small M e p kind payload ≡ n → ¬ (n ≡ 0) → UnitIs h u (writeUnit small M e p kind payload)

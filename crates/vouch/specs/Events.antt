@@ -4,8 +4,8 @@ use mathlib.Core.Path.{_≡_}
 use Prim.Native.Nat.{suc, _≤_, _<_}
 use Rattle.vouch.specs.Words.{UnitNo, Pos, Epoch, Page, Before}
 use Rattle.vouch.specs.Maps.{Map, Has, Serves, Good, Renewed, Successor}
-use Rattle.vouch.specs.History.{Event, History, Noted, Laid, Mark, Marked, MarkedBy, Unmarked, held, sealed}
-use Rattle.vouch.specs.History.Note.{store, trimAt, pruneTo}
+use Rattle.vouch.specs.History.{Event, History, Noted, PageNoted, Laid, Mark, Marked, MarkedBy, Unmarked, held, sealed}
+use Rattle.vouch.specs.History.Note.{trimAt, pruneTo}
 use Rattle.vouch.specs.History.Event.{ask, write, trim, prune, seal, install}
 use Rattle.vouch.specs.History.History.{fresh, _▹_}
 use Rattle.vouch.specs.History.Mark.{page, gone}
@@ -23,7 +23,7 @@ pub record MayWrite (h : History) (u : UnitNo) (L : Map) (p : Pos) (X : Page) : 
   pub takes : Takes h u L
   pub unmarked : Unmarked h u p
   pub above : (v : UnitNo) → Before v u (L .set p) → MarkedBy h v p (page X) (L .epoch)
-  pub asked : Noted h (store X)
+  pub asked : PageNoted h p X
 
 -- Of any position, written or not, trimmed or not. Head to tail too.
 pub record MayTrim (h : History) (u : UnitNo) (L : Map) (p : Pos) : Type 0 where

@@ -5,13 +5,15 @@ use mathlib.Core.Bool.{cond}
 use Prim.Native.Nat.{_≤_, _<_}
 use lib.Dec.{eqb}
 use Rattle.vouch.specs.Words.{UnitNo, Pos, Epoch, Page}
+use Rattle.vouch.specs.Words.Page.{junk}
 use Rattle.vouch.specs.Maps.{Map}
 
 -- ---- events
 
--- what a client is asked for: to store a page (append; a fill asks for junk), to trim a position, to prune up to a position
+-- what a client is asked for: to append a page, to fill a position with junk, to trim a position, to prune up to a position
 pub data Note : Type 0 where
-  store : Page → Note
+  append : Page → Note
+  fillAt : Pos → Note
   trimAt : Pos → Note
   pruneTo : Pos → Note
 
@@ -45,6 +47,11 @@ infix 15 _⊑_
 pub data Noted : History → Note → Type 0 where
   noted-now : {h : History} {w : Note} → Noted (h ▹ ask w) w
   noted-before : {h : History} {ev : Event} {w : Note} → Noted h w → Noted (h ▹ ev) w
+
+-- the page X at p was asked for: an append asked for X, or X is junk and a fill asked for junk at p
+pub data PageNoted (h : History) (p : Pos) : Page → Type 0 where
+  by-append : {X : Page} → Noted h (append X) → PageNoted h p X
+  by-fill : Noted h (fillAt p) → PageNoted h p junk
 
 -- the layout L is, or once was, in force
 pub data Laid : History → Map → Type 0 where

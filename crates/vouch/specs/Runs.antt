@@ -18,14 +18,14 @@ use Rattle.yard.specs.declared.letter.Body.the-variants.{Asks}
 use Rattle.yard.specs.declared.state.Step.{Step}
 use Rattle.yard.specs.declared.state.Step.the-variants.{Begin, Deliver}
 use Rattle.yard.specs.World.{World, isClient, clientAt, letterAt}
-use Rattle.yard.specs.Serve.{serve}
+use Rattle.yard.specs.Serve.{bytesOf, serve}
 use Rattle.yard.specs.Steps.{Done, step, answerTo}
 use Rattle.yard.specs.Fresh.{freshWorld}
 use Rattle.vouch.specs.Words.{UnitNo, Pos, Epoch, Page, Answer}
-use Rattle.vouch.specs.Words.Page.{junk}
+use Rattle.vouch.specs.Words.Page.{bytes}
 use Rattle.vouch.specs.Words.Answer.{shows, trimmed, unwritten}
 use Rattle.vouch.specs.History.{Note}
-use Rattle.vouch.specs.History.Note.{store, trimAt, pruneTo}
+use Rattle.vouch.specs.History.Note.{append, fillAt, trimAt, pruneTo}
 use Rattle.vouch.specs.Pages.{carried}
 
 -- ---- moves
@@ -58,10 +58,10 @@ world l (ms ▸ m) = result (world l ms) m .world
 
 -- ---- asked for
 
--- an append asks for the page of its first len bytes (proofs/Asking, `data-page`), a fill for junk, a trim and a prune for themselves
+-- an append asks for its first len bytes (proofs/Asking, `data-bytes`), a fill for junk at its position, a trim and a prune for themselves
 pub data Wants (j : Job) : Note → Type 0 where
-  wants-append : j .work ≡ Append → Wants j (store (carried (dataPage (j .len) (j .bytes))))
-  wants-fill : {p : Position} → j .work ≡ Fill p → Wants j (store junk)
+  wants-append : j .work ≡ Append → Wants j (append (bytes (bytesOf (dataPage (j .len) (j .bytes)))))
+  wants-fill : {p : Position} → j .work ≡ Fill p → Wants j (fillAt (p .0))
   wants-trim : {p : Position} → j .work ≡ Trim p → Wants j (trimAt (p .0))
   wants-prune : {p : Position} → j .work ≡ Prune p → Wants j (pruneTo (p .0))
 

@@ -5,8 +5,8 @@ use Prim.Native.Nat.{_<_}
 use Rattle.vouch.specs.Words.{UnitNo, Pos, Epoch, Page, Answer, Last}
 use Rattle.vouch.specs.Words.Answer.{shows, trimmed, unwritten}
 use Rattle.vouch.specs.Maps.{Map, Serves}
-use Rattle.vouch.specs.History.{History, _⊑_, Noted, Laid, Mark, Marked, MarkedBy, Unmarked, held}
-use Rattle.vouch.specs.History.Note.{store, trimAt, pruneTo}
+use Rattle.vouch.specs.History.{History, _⊑_, Noted, PageNoted, Laid, Mark, Marked, MarkedBy, Unmarked, held}
+use Rattle.vouch.specs.History.Note.{trimAt, pruneTo}
 use Rattle.vouch.specs.History.Mark.{page, gone}
 use Rattle.vouch.specs.Events.{Takes}
 
@@ -46,8 +46,8 @@ pub record Safe (h : History) : Type 0 where
   -- Any two reads of one position that return a page, at any two moments and by any two layouts, return the same page.
   pub reads-agree : {h₁ h₂ : History} {L₁ L₂ : Map} {p : Pos} {X Y : Page} →
       h₁ ⊑ h → h₂ ⊑ h → Read h₁ L₁ p (shows X) → Read h₂ L₂ p (shows Y) → X ≡ Y
-  -- A page that is read was asked for before.
-  pub read-asked : {h₁ : History} {L : Map} {p : Pos} {X : Page} → h₁ ⊑ h → Read h₁ L p (shows X) → Noted h₁ (store X)
+  -- A page that is read was asked for before: by an append, or by a fill of that position.
+  pub read-asked : {h₁ : History} {L : Map} {p : Pos} {X : Page} → h₁ ⊑ h → Read h₁ L p (shows X) → PageNoted h₁ p X
   -- Once an append of X at p is done, a read of p under the layout in force returns X, or "trimmed" if a trim or prune of p was asked for.
   pub after-done : {h₁ h₂ : History} {L₁ L₂ : Map} {p : Pos} {X : Page} {r : Answer} →
       h₁ ⊑ h₂ → h₂ ⊑ h → Settled h₁ L₁ p (page X) → Read h₂ L₂ p r → L₂ .epoch ≡ held h₂ .epoch → After h₂ p X r
