@@ -8,6 +8,7 @@ pub mod Memories
 pub mod Places
 pub mod Serving
 pub mod Blanks
+pub mod Rows
 pub mod Counting
 pub mod Stepping
 pub mod Delivering

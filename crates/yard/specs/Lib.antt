@@ -8,3 +8,4 @@ pub mod Moves
 pub mod Parts
 pub mod Settled
 pub mod Prepared
+pub mod Unique

@@ -8,5 +8,6 @@ mod machine;
 mod moves;
 mod other_steps;
 pub mod state;
+pub mod step;
 mod unit_request;
 mod units;
