@@ -2,8 +2,10 @@
 ghost use mathlib.Core.Path.{_≡_};
 ghost use lib.ListN.{length};
 ghost use Rattle.yard.specs.Lent.{unitsBytes};
-ghost use Rattle.yard.specs.Fresh.{freshUnits, freshYard};
+ghost use Rattle.yard.specs.Fresh.{freshUnits, freshYard, IsMade};
 ghost use Rattle.yard.specs.Prepared.{freshNumberOf, IsPrepared};
+use crate::bag::clear;
+use crate::letter::Letter;
 use crate::state::Yard;
 use client::state::Client;
 use layout::good::is_good;
@@ -89,4 +91,14 @@ pub(crate) fn prepare(held: Layout, seq: Sequencer, places: usize, units: &mut [
         sequencer,
         blanks: 32,
     }
+}
+
+// A fresh yard over a lent sequencer, table and memories of any content.
+pub fn fresh(held: Layout, seq: &mut Sequencer, table: &mut [Letter], units: &mut [u8]) -> Made
+    ensures { λ r. ⌜ IsMade held (now (seq .entry)) (now (table .entry)) (now (units .entry)) r (now (seq .exit)) (now (table .exit)) (now (units .exit)) ⌝ }
+{
+    let p = prepare(held, *seq, table.len(), units);
+    *seq = p.sequencer;
+    clear(table, p.blanks);
+    p.made
 }
