@@ -17,7 +17,12 @@ use Rattle.unit.specs.State.{State}
 use Rattle.unit.specs.Memory.{good, numberOf, decode, encode}
 use Rattle.unit.proofs.Goodness.{is-good}
 use Rattle.unit.proofs.Encoding.{encode-decode}
+use Rattle.client.specs.declared.message.Page.{Page}
+use Rattle.client.specs.declared.message.Ask.{Ask}
+use Rattle.client.specs.declared.message.Response.{Response}
+use Rattle.unit.specs.Unit.{freshUnit}
 use Rattle.yard.specs.Lent.{goodUnits, unitsIn, unitsBytes}
+use Rattle.yard.specs.Parts.{unitOf, unitSays, unitAfter, OnUnit, AtUnit}
 
 none-left : {A : Type 0} (xs : List A) → length xs ≡ 0 → xs ≡ []
 none-left [] e = refl
@@ -128,3 +133,16 @@ wrong-length m h = go (goodUnits 1 8 m) refl
     go : (t : Bool) → goodUnits 1 8 m ≡ t → false ≡ t
     go true g = absurd (h (good-long 1 8 m g))
     go false g = refl
+
+-- a request at one part is a request at its unit; the part is long and starts where the unit's memory does
+pub at-part : (m : List ℕ) (u : ℕ) (ask : Ask) (page : Page) {start long : ℕ} {r : Response} {after : List ℕ} → Bytes m → goodUnits 1 8 m ≡ true → u - 1 < 8 → long ≡ 6168 → start ≡ (u - 1) * 6168
+    → OnUnit (unitSays (decode small (take long (drop start m))) ask page) (unitAfter (decode small (take long (drop start m))) ask page) r after
+    → AtUnit m u (unitSays (unitOf m u) ask page) (unitAfter (unitOf m u) ask page) r (take start m ++ (after ++ drop long (drop start m)))
+at-part m u ask page {start} {long} b g h e f d =
+    let k : ℕ = u - 1 in
+    let i = unit-part 8 m k (freshUnit u) h in
+    let o = rw (e, f) at d in
+    record {
+      response-is = o .response-is ∙ ap (λ (s : State). unitSays s ask page) (sym i);
+      memories-is = rw (e, f, o .memory-is) (part-changed 1 8 m k _ b g h ∙ ap (λ (s : State). unitsBytes (set (unitsIn 8 m) k (unitAfter s ask page))) (sym i));
+    }

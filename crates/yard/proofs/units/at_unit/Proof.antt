@@ -1,16 +1,11 @@
 use borrow.Author.Needs.{needs}
-use Prim.Native.Nat.{_+_, _-_, _*_, _<_, _≤_, ℕ}
-use mathlib.Core.Path.{_≡_, sym, ap, _∙_}
+use Prim.Native.Nat.{_+_, _-_, _<_}
+use mathlib.Core.Path.{_≡_}
 use lib.Dec.{leb}
-use lib.ListN.{take, drop}
 use native.Mathlib.Omega.{arith}
 use borrow.Author.Tests.{leb-true}
 use Rattle.num.proofs.Tests.{and-both}
-use Rattle.yard.proofs.Memories.{good-long, good-part, unit-part, part-changed}
-use mathlib.Core.List.{List}
-use Rattle.unit.specs.State.{State}
-use Rattle.unit.specs.Unit.{freshUnit}
-use Rattle.yard.specs.Parts.{unitSays, unitAfter}
+use Rattle.yard.proofs.Memories.{good-long, good-part, at-part}
 use Rattle.yard.proofs.units.at_unit.Statement.{statement}
 use Rattle.yard.proofs.units.at_unit.Tie as tie
 
@@ -46,14 +41,9 @@ same-length c = search needs
 returns : tie.Need-returns
 returns c =
     let s = c .before .before .before .before .before .before in
-    let m : List ℕ = s .args .units .now in
-    let k : ℕ = s .args .u - 1 in
+    let f = c .before .before .before .before .start-of .ensures .0 in
     let e : c .before .before .before .before .start-of .result + 6168 - c .before .before .before .before .start-of .result ≡ 6168 = omega arith in
-    let d = rw (e, c .before .before .before .before .start-of .ensures .0, ← unit-part 8 m k (freshUnit (s .args .u)) (below s)) at (c .before .before .ask-unit .ensures) in
-    record {
-      response-is = d .response-is;
-      memories-is = rw (e, c .before .before .before .before .start-of .ensures .0, d .memory-is) (part-changed 1 8 m k _ (c .before .before .before .before .before .slice-known .given) (s .pre .0) (below s));
-    }
+    at-part (s .args .units .now) (s .args .u) (s .args .ask) (s .args .page) (c .before .before .before .before .before .slice-known .given) (s .pre .0) (below s) e f (c .before .before .ask-unit .ensures)
 
 pub at-unit-spec : {M : Type 1} → statement M
 at-unit-spec =

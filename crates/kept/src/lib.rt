@@ -1,15 +1,14 @@
 // A yard kept by value but for the memories, so that a program can hold it: its own table and sequencer are lent to each step.
-ghost use mathlib.Core.Path.{_≡_};
-use crate::fresh::Made;
-use crate::fresh::fresh;
-use crate::letter::Letter;
-use crate::state::Step;
-use crate::state::Stepped;
-use crate::state::Yard;
-use crate::step::step;
+ghost use Rattle.kept.specs.Promises.{IsKeptStep, IsKeptMade};
 use client::state::Job;
 use layout::value::Layout;
 use sequencer::Sequencer;
+use yard::fresh::fresh;
+use yard::letter::Letter;
+use yard::state::Step;
+use yard::state::Stepped;
+use yard::state::Yard;
+use yard::step::step;
 
 pub struct Kept {
     pub yard: Yard,
@@ -29,7 +28,9 @@ pub struct KeptMade {
     pub kept: Kept,
 }
 
-pub fn step_kept(kept: Kept, units: &mut [u8], s: Step, job: Job) -> KeptStep {
+pub fn step_kept(kept: Kept, units: &mut [u8], s: Step, job: Job) -> KeptStep
+    ensures { λ r. ⌜ IsKeptStep kept (now (units .entry)) s job r (now (units .exit)) ⌝ }
+{
     let yard = kept.yard;
     let mut seq = kept.sequencer;
     let mut table = kept.table;
@@ -41,7 +42,9 @@ pub fn step_kept(kept: Kept, units: &mut [u8], s: Step, job: Job) -> KeptStep {
     }
 }
 
-pub fn fresh_kept(held: Layout, units: &mut [u8]) -> KeptMade {
+pub fn fresh_kept(held: Layout, units: &mut [u8]) -> KeptMade
+    ensures { λ r. ⌜ IsKeptMade held (now (units .entry)) r (now (units .exit)) ⌝ }
+{
     let mut seq = Sequencer::fresh();
     let none = Letter::blank();
     let mut table = [none; 32];
