@@ -9,6 +9,7 @@ pub mod Places
 pub mod Serving
 pub mod Blanks
 pub mod Rows
+pub mod LocalTypes
 pub mod Counting
 pub mod Stepping
 pub mod Delivering
