@@ -32,6 +32,7 @@ pub mod lehmer;
 pub mod mood;
 
 pub mod census;
+pub mod compare;
 pub mod digest;
 pub mod print;
 pub mod run;

@@ -1,4 +1,5 @@
 // Drives one client through each operation against scripted answers, and prints what it does at every one.
+mod lines;
 mod runs;
 mod script;
 mod show;

@@ -1,4 +1,6 @@
 // Every number and every shape of answer at every stage, one sign each: '.' rests, a number ends, a letter asks again.
+use crate::lines::find;
+use crate::lines::lines;
 use crate::script;
 use crate::script::reach;
 use crate::show::line;
@@ -6,11 +8,8 @@ use crate::show::number;
 use crate::show::text;
 use client::message::Ask;
 use client::state::Client;
-use client::state::Job;
-use client::state::Work;
 use client::turn::Act;
 use client::turn::Turn;
-use num::count::Position;
 
 fn sign_of(a: Ask) -> u8 {
     match a {
@@ -41,78 +40,56 @@ fn sign(t: Turn) {
     }
 }
 
-// The numbers 0 to 20.
-fn numbers(c: Client) {
-    let mut n: u8 = 0;
-    while n <= 20 {
-        sign(script::answer(c, script::said(b'r', n)));
-        n += 1;
+// What becomes of each answer of a script.
+fn signs(c: Client, answers: &[u8]) {
+    let n = answers.len() / 2;
+    let mut i = 0;
+    while i < n {
+        sign(script::answer(c, script::said(answers[2 * i], answers[2 * i + 1] % 48)));
+        i += 1;
     }
 }
 
-// The numbers; then a layout, a token in range and past it, fine, a page, an edge in range and past it.
-fn row(name: &[u8], c: Client) {
-    text(name);
-    numbers(c);
+// The numbers 0 to 20; then a layout, a token in range and past it, fine, a page, an edge in range and past it.
+fn all_signs(c: Client) {
+    signs(c, b"r0r1r2r3r4r5r6r7r8r9r:r;r<r=r>r?r@rArBrCrD");
     text(b" |");
-    sign(script::answer(c, script::said(b'h', 0)));
-    sign(script::answer(c, script::said(b't', 5)));
-    sign(script::answer(c, script::said(b'T', 0)));
-    sign(script::answer(c, script::said(b'f', 0)));
-    sign(script::answer(c, script::said(b's', 0)));
-    sign(script::answer(c, script::said(b'e', 5)));
-    sign(script::answer(c, script::said(b'X', 0)));
+    signs(c, b"h0t5T0f0s0e5X0");
     line();
 }
 
+// A row of a table: '#', its name, and the script that leads to its stage.
+pub(crate) fn row(s: &[u8]) {
+    if s.len() < 1 {
+        return;
+    }
+    let bar = find(s, 1, b'|');
+    text(&s[1..bar]);
+    all_signs(reach(&s[bar..]));
+}
+
 fn appends() {
-    row(b"idle", Client::fresh());
-    row(b"fetching", reach(script::appending(3), b""));
-    row(b"drawing", reach(script::appending(3), b"h."));
-    row(b"writing at the head", reach(script::appending(3), b"h.t0"));
-    row(
-        b"writing at the tail",
-        reach(script::appending(3), b"h.t0f."),
+    lines(
+        b"#idle|\n#fetching| a3\n#drawing| a3h.\n#writing at the head| a3h.t0\n#writing at the tail| a3h.t0f.\n",
     );
 }
 
 fn fills() {
-    row(b"reading", reach(Job::of(Work::Read(Position(0))), b"h."));
-    row(
-        b"filling at the head",
-        reach(Job::of(Work::Fill(Position(0))), b"h."),
-    );
-    row(b"looking", reach(Job::of(Work::Fill(Position(0))), b"h.r6"));
-    row(
-        b"filling at the tail",
-        reach(Job::of(Work::Fill(Position(0))), b"h.f."),
+    lines(
+        b"#reading| r0h.\n#filling at the head| f0h.\n#looking| f0h.r6\n#filling at the tail| f0h.f.\n",
     );
 }
 
 fn trims() {
-    row(
-        b"trimming at the head",
-        reach(Job::of(Work::Trim(Position(0))), b"h."),
-    );
-    row(
-        b"trimming at the tail",
-        reach(Job::of(Work::Trim(Position(0))), b"h.f."),
-    );
-    row(b"pruning", reach(Job::of(Work::Prune(Position(0))), b"h."));
-    row(
-        b"pruning the last",
-        reach(Job::of(Work::Prune(Position(0))), b"h.f.f."),
+    lines(
+        b"#trimming at the head| t0h.\n#trimming at the tail| t0h.f.\n#pruning| p0h.\n#pruning the last| p0h.f.f.\n",
     );
 }
 
 fn seals() {
-    row(b"sealing", reach(Job::of(Work::Reorganise), b"h."));
-    row(
-        b"sealing the last",
-        reach(Job::of(Work::Reorganise), b"h.e0e0"),
+    lines(
+        b"#sealing| n0h.\n#sealing the last| n0h.e0e0\n#offering| n0h.e0e0e0\n#starting| n0h.e0e0e0f.\n",
     );
-    row(b"offering", reach(Job::of(Work::Reorganise), b"h.e0e0e0"));
-    row(b"starting", reach(Job::of(Work::Reorganise), b"h.e0e0e0f."));
 }
 
 pub(crate) fn all() {

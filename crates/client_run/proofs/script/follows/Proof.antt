@@ -1,5 +1,5 @@
 -- `client_run::script::follows` is safe and ends: it takes two bytes a turn, as many times as the script has two.
-use Prim.Native.Nat.{_≤_, _-_, _/_}
+use Prim.Native.Nat.{_-_, _/_}
 use mathlib.Core.Path.{_≡_}
 use native.Mathlib.Omega.{arith}
 use lib.ListN.{length}
@@ -7,7 +7,7 @@ use Rattle.client_run.proofs.script.follows.Statement.{statement}
 use Rattle.client_run.proofs.script.follows.Tie as tie
 
 abbrev Inv-loop : tie.InvT-loop
-Inv-loop script aloud c₀ n i₀ c i = (i ≤ n) × (n ≡ length script / 2)
+Inv-loop script aloud c₀ n i₀ c i = n ≡ length script / 2
 
 abbrev μ-loop : tie.MeasureT-loop
 μ-loop script aloud c₀ n i₀ c i = n - i

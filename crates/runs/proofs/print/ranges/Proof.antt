@@ -1,0 +1,64 @@
+-- `runs::print::ranges` is safe and ends: it counts up to 8 at most.
+use Prim.Native.Nat.{_-_, _≤_}
+use mathlib.Core.Path.{_≡_}
+use borrow.Author.Needs.{needs}
+use lib.ListN.{length}
+use Rattle.runs.proofs.print.ranges.Statement.{statement}
+use Rattle.runs.proofs.print.ranges.Tie as tie
+
+abbrev Inv-loop : tie.InvT-loop
+Inv-loop line₀ at count all n place₀ i₀ line place i = (i ≤ n) × (n ≤ 8) × (length line ≡ length line₀)
+
+abbrev μ-loop : tie.MeasureT-loop
+μ-loop line₀ at count all n place₀ i₀ line place i = n - i
+
+size-requires : tie.Need-size-requires Inv-loop μ-loop
+size-requires c κs = tt
+
+smaller-requires : tie.Need-smaller-requires Inv-loop μ-loop
+smaller-requires c κs = tt
+
+loop-holds : tie.Need-loop-holds Inv-loop μ-loop
+loop-holds c = search needs
+
+mul-r : tie.Need-mul-r Inv-loop μ-loop
+mul-r c = search needs
+
+array-copy-out-r : tie.Need-array-copy-out-r Inv-loop μ-loop
+array-copy-out-r c = search needs
+
+range-requires : tie.Need-range-requires Inv-loop μ-loop
+range-requires c κs = tt
+
+add-i : tie.Need-add-i Inv-loop μ-loop
+add-i c = search needs
+
+loop-less : tie.Need-loop-less Inv-loop μ-loop
+loop-less c = search needs
+
+loop-again : tie.Need-loop-again Inv-loop μ-loop
+loop-again c = search needs
+
+same-length : tie.Need-same-length Inv-loop μ-loop
+same-length c = search needs
+
+returns : tie.Need-returns Inv-loop μ-loop
+returns c = tt
+
+pub ranges-spec : {M : Type 1} → statement M
+ranges-spec =
+    tie.close
+    (tie.spec
+    Inv-loop
+    μ-loop
+    size-requires
+    smaller-requires
+    loop-holds
+    mul-r
+    array-copy-out-r
+    range-requires
+    add-i
+    loop-less
+    loop-again
+    same-length
+    returns)

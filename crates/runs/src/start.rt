@@ -1,0 +1,134 @@
+// What is drawn once for a run: its layout, its mood, and how old its yard is.
+ghost use Prim.Native.Nat.{_≤_};
+use crate::draw::bit;
+use crate::draw::of;
+use crate::sets::drawn_sets;
+use layout::value::Chain;
+use layout::value::Layout;
+use layout::value::Range;
+use num::count::Epoch;
+use num::count::Position;
+
+// How often, of 64, a letter is kept and an answer lost; whether the log's last positions are asked for, whether appends
+// prevail, and whether units stop.
+pub(crate) struct Mood {
+    pub keep: u64,
+    pub lose: u64,
+    pub tall: bool,
+    pub busy: bool,
+    pub mortal: bool,
+}
+
+// One layout of sixteen is spoilt: by its epoch, the start of its first range, the sets that one uses, or a unit.
+fn spoils(raw: [u64; 64], way: u64) -> bool {
+    of(raw, 3, 64) == way
+}
+
+fn splits(raw: [u64; 64], count: u64) -> bool {
+    (2 <= count) & (of(raw, 1, 2) == 1)
+}
+
+fn range_at(start: u64, sets: u64) -> Range
+    requires { ⌜ sets ≤ 255 ⌝ }
+{
+    Range {
+        start: Position(start),
+        sets: sets as u8,
+    }
+}
+
+// One range, or two where there are sets for them.
+fn drawn_ranges(raw: [u64; 64], count: u64) -> [Range; 8]
+    requires { ⌜ count ≤ 4 ⌝ }
+{
+    let start = bit(spoils(raw, 1));
+    let more = bit(spoils(raw, 2));
+    let none = range_at(0, 0);
+    let mut ranges = [none; 8];
+    if splits(raw, count) {
+        let half = count / 2;
+        let first = range_at(start, half + more);
+        let second = range_at(1 + of(raw, 2, 12), count - half);
+        ranges[0] = first;
+        ranges[1] = second;
+        return ranges;
+    }
+    let all = range_at(start, count + more);
+    ranges[0] = all;
+    ranges
+}
+
+// With a unit that there is not.
+fn with_stranger(set: Chain) -> Chain {
+    let mut units = set.units;
+    units[0] = 9;
+    Chain {
+        count: set.count,
+        units,
+    }
+}
+
+fn first_sets(raw: [u64; 64], count: u64) -> [Chain; 16] {
+    let mut sets = drawn_sets(raw, 16, count);
+    if spoils(raw, 3) {
+        let first = sets[0];
+        let next = with_stranger(first);
+        sets[0] = next;
+    }
+    sets
+}
+
+pub(crate) fn drawn_layout(raw: [u64; 64]) -> Layout {
+    let count = 1 + of(raw, 0, 4);
+    let epoch = Epoch(1 + bit(spoils(raw, 0)) as u32);
+    let sets = first_sets(raw, count);
+    let ranges = drawn_ranges(raw, count);
+    Layout {
+        epoch,
+        set_count: count as u8,
+        sets,
+        range_count: 1 + bit(splits(raw, count)) as u8,
+        ranges,
+    }
+}
+
+fn keep_of(n: u64) -> u64 {
+    match n {
+        0 => 1,
+        1 => 4,
+        2 => 10,
+        _ => 28,
+    }
+}
+
+fn lose_of(n: u64) -> u64 {
+    match n {
+        0 => 0,
+        1 => 1,
+        2 => 2,
+        _ => 4,
+    }
+}
+
+// A busy run loses nothing and doubles little.
+pub(crate) fn drawn_mood(raw: [u64; 64]) -> Mood {
+    let busy = of(raw, 7, 4) == 0;
+    let tall = of(raw, 6, 8) == 0;
+    let mortal = of(raw, 9, 3) == 0;
+    if busy {
+        return Mood {
+            keep: 1,
+            lose: 0,
+            tall,
+            busy,
+            mortal,
+        };
+    }
+    Mood {
+        keep: keep_of(of(raw, 4, 4)),
+        lose: lose_of(of(raw, 5, 4)),
+        tall,
+        busy,
+        mortal,
+    }
+}
