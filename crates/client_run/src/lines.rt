@@ -1,6 +1,5 @@
 // A text of lines: '*' plays a script from a fresh client, '>' at the client as it stands, '#' is a row of a table, and any other line is printed.
 use crate::script::play;
-use crate::show;
 use crate::tables::row;
 use client::state::Client;
 ghost use Prim.Native.Nat.{_≤_};
@@ -36,8 +35,8 @@ fn line(c: Client, s: &[u8]) -> Client {
         row(s);
         return c;
     }
-    show::text(s);
-    show::line();
+    say::text(s);
+    say::line();
     c
 }
 

@@ -4,13 +4,14 @@ use crate::script;
 use crate::script::play;
 use crate::script::reach;
 use crate::show;
-use crate::show::text;
 use client::begin::give_up;
 use client::begin::restart;
 use client::message::Stamp;
 use client::state::Client;
 use client::take::take;
 use num::count::Request;
+use say::line;
+use say::text;
 
 // Head to tail; heads that are taken; 6 at a later unit counts as fine; eight heads taken, 17 requests.
 pub(crate) fn appends() {
@@ -111,7 +112,7 @@ fn reborn(c: Client) -> Client {
     show::number(r.answer as u64);
     show::number(d.life as u64);
     show::number(used.0 as u64);
-    show::line();
+    line();
     d
 }
 

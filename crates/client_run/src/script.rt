@@ -19,6 +19,8 @@ use layout::value::Range;
 use num::bytes::wide;
 use num::count::Epoch;
 use num::count::Position;
+use say::line;
+use say::text;
 
 // The layout of the paper's example: sets {1, 2}, {2, 3} and, from 10 on, {1, 3}.
 pub(crate) fn layout_of(epoch: u32) -> Layout {
@@ -203,9 +205,9 @@ fn follows(first: Client, script: &[u8], aloud: bool) -> Client {
 }
 
 fn told(answer: u8, t: Turn) {
-    show::text(b" begin");
+    text(b" begin");
     show::number(answer as u64);
-    show::line();
+    line();
     show::turn(t);
 }
 

@@ -6,20 +6,14 @@ use client::turn::Outcome;
 use client::turn::Turn;
 use layout::value::Chain;
 use layout::value::Layout;
-use libc::STDOUT_FILENO;
 use num::bytes::wide;
+use say::line;
+use say::text;
 
-pub(crate) fn text(words: &[u8]) {
-    io::write_all(STDOUT_FILENO, words);
-}
-
+// A number behind a space.
 pub(crate) fn number(n: u64) {
     text(b" ");
-    io::print_decimal(STDOUT_FILENO, n);
-}
-
-pub(crate) fn line() {
-    text(b"\n");
+    say::number(n);
 }
 
 // A page's kind and length, and its first byte; nothing where there is none.

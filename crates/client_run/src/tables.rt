@@ -3,13 +3,13 @@ use crate::lines::find;
 use crate::lines::lines;
 use crate::script;
 use crate::script::reach;
-use crate::show::line;
 use crate::show::number;
-use crate::show::text;
 use client::message::Ask;
 use client::state::Client;
 use client::turn::Act;
 use client::turn::Turn;
+use say::line;
+use say::text;
 
 fn sign_of(a: Ask) -> u8 {
     match a {

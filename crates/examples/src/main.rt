@@ -3,10 +3,10 @@ ghost use mathlib.Core.Path.{_≡_};
 ghost use lib.ListN.{length};
 use crate::ask::Row;
 use crate::row::row_at;
-use crate::show::say;
-use crate::show::say_number;
 use crate::show::show;
 use crate::tell::tell;
+use say::number;
+use say::text;
 use unit::memory::Unit;
 
 mod ask;
@@ -37,10 +37,10 @@ fn main() {
     let mut mem = [0u8; Unit::SIZE];
     let wrong = run(&mut mem);
     let rows = Row::COUNT as u64;
-    say_number(rows);
-    say(b" rows, ");
-    say_number(rows - wrong);
-    say(b" as expected, ");
-    say_number(wrong);
-    say(b" NOT as expected\n");
+    number(rows);
+    text(b" rows, ");
+    number(rows - wrong);
+    text(b" as expected, ");
+    number(wrong);
+    text(b" NOT as expected\n");
 }

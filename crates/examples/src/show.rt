@@ -5,48 +5,41 @@ ghost use Rattle.examples.specs.Marked.{sameTold};
 use crate::ask::Ask;
 use crate::ask::Row;
 use crate::ask::Told;
-use libc::STDOUT_FILENO;
 use num::answer::pick;
 use num::count::Epoch;
 use num::count::Position;
-
-pub(crate) fn say(text: &[u8]) {
-    io::write_all(STDOUT_FILENO, text);
-}
-
-pub(crate) fn say_number(n: u64) {
-    io::print_decimal(STDOUT_FILENO, n);
-}
+use say::number;
+use say::text;
 
 fn say_at(what: &[u8], e: Epoch, p: Position) {
-    say(what);
-    say(b" e");
-    say_number(e.0 as u64);
-    say(b" p");
-    say_number(p.0);
+    text(what);
+    text(b" e");
+    number(e.0 as u64);
+    text(b" p");
+    number(p.0);
 }
 
 // A page's kind and length.
 fn say_page(kind: u64, size: u64) {
     match kind {
-        1 => say(b" data "),
-        2 => say(b" junk "),
-        _ => say(b" other "),
+        1 => text(b" data "),
+        2 => text(b" junk "),
+        _ => text(b" other "),
     }
-    say_number(size);
-    say(b" bytes");
+    number(size);
+    text(b" bytes");
 }
 
 fn say_unit(n: u64) {
     if n != 0 {
-        say(b" ");
-        say_number(n);
+        text(b" ");
+        number(n);
     }
 }
 
 // The units of a set, a byte each.
 fn say_units(n: u64) {
-    say(b" units");
+    text(b" units");
     say_unit(n % 256);
     say_unit(n / 256 % 256);
     say_unit(n / 65_536 % 256);
@@ -56,8 +49,8 @@ fn say_units(n: u64) {
 fn say_asked(asked: Ask) {
     match asked {
         Ask::Fresh(n) => {
-            say(b"fresh unit ");
-            say_number(n as u64);
+            text(b"fresh unit ");
+            number(n as u64);
         }
         Ask::Write(e, p, kind, size) => {
             say_at(b"write", e, p);
@@ -67,47 +60,47 @@ fn say_asked(asked: Ask) {
         Ask::Trim(e, p) => say_at(b"trim", e, p),
         Ask::Prune(e, p) => say_at(b"prune", e, p),
         Ask::Seal(n) => {
-            say(b"seal e");
-            say_number(n.0 as u64);
+            text(b"seal e");
+            number(n.0 as u64);
         }
         Ask::Fill(n) => {
-            say(b"write e1 data 0 bytes at each position below ");
-            say_number(n);
+            text(b"write e1 data 0 bytes at each position below ");
+            number(n);
         }
-        Ask::Floor => say(b"look at the floor"),
+        Ask::Floor => text(b"look at the floor"),
         Ask::Place(p) => {
-            say(b"set of p");
-            say_number(p.0);
+            text(b"set of p");
+            number(p.0);
         }
         Ask::Drop(a, b, k) => {
-            say(b"drop unit");
+            text(b"drop unit");
             say_unit(a as u64);
             say_unit(pick(a == b, 0, b) as u64);
-            say(b", set ");
-            say_number(k as u64);
+            text(b", set ");
+            number(k as u64);
         }
     }
 }
 
 // The number answered, and what comes with a fine answer.
 fn say_told(asked: Ask, told: Told) {
-    say_number(told.answer);
+    number(told.answer);
     if told.answer != 0 {
         return;
     }
     match asked {
         Ask::Read(_, _) => say_page(told.first, told.second),
         Ask::Seal(_) => {
-            say(b" edge ");
-            say_number(told.first);
+            text(b" edge ");
+            number(told.first);
         }
         Ask::Floor => {
-            say(b" floor ");
-            say_number(told.first);
+            text(b" floor ");
+            number(told.first);
         }
         Ask::Place(_) => {
-            say(b" set ");
-            say_number(told.first);
+            text(b" set ");
+            number(told.first);
         }
         Ask::Drop(_, _, _) => say_units(told.second),
         _ => {}
@@ -125,20 +118,20 @@ fn verdict(got: Told, expected: Told) -> u64
     ensures { λ r. ⌜ r ≡ cond (sameTold got expected) 0 1 ⌝ }
 {
     if same(got, expected) {
-        say(b", as expected\n");
+        text(b", as expected\n");
         0
     } else {
-        say(b", NOT as expected\n");
+        text(b", NOT as expected\n");
         1
     }
 }
 
 fn say_row(example: u64, asked: Ask, got: Told) {
-    say(b"example ");
-    say_number(example);
-    say(b": ");
+    text(b"example ");
+    number(example);
+    text(b": ");
     say_asked(asked);
-    say(b": ");
+    text(b": ");
     say_told(asked, got);
 }
 

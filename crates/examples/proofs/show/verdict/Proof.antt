@@ -6,17 +6,17 @@ use Rattle.examples.proofs.show.verdict.Tie as tie
 same-requires : tie.Need-same-requires
 same-requires c κs = search needs
 
-slice-aggregate-say : tie.Need-slice-aggregate-say
-slice-aggregate-say c = search needs
+slice-aggregate-text : tie.Need-slice-aggregate-text
+slice-aggregate-text c = search needs
 
-say-requires : tie.Need-say-requires
-say-requires c κs = search needs
+text-requires : tie.Need-text-requires
+text-requires c κs = search needs
 
-slice-aggregate-say-2 : tie.Need-slice-aggregate-say-2
-slice-aggregate-say-2 c = search needs
+slice-aggregate-text-2 : tie.Need-slice-aggregate-text-2
+slice-aggregate-text-2 c = search needs
 
-say-requires-2 : tie.Need-say-requires-2
-say-requires-2 c κs = search needs
+text-requires-2 : tie.Need-text-requires-2
+text-requires-2 c κs = search needs
 
 returns : tie.Need-returns
 returns c = rw (sym (c .before .before .before .same .ensures) ∙ c .before .before .if1 .taken)
@@ -29,9 +29,9 @@ verdict-spec =
     tie.close
     (tie.spec
     same-requires
-    slice-aggregate-say
-    say-requires
-    slice-aggregate-say-2
-    say-requires-2
+    slice-aggregate-text
+    text-requires
+    slice-aggregate-text-2
+    text-requires-2
     returns
     returns-2)

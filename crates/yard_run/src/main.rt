@@ -1,0 +1,32 @@
+// Longer runs of the yard, step by step: what each answers and ends is printed, and compared with what is expected.
+use crate::yards::yards;
+use say::number;
+use say::text;
+use yard::state::Yard;
+
+mod arrange;
+mod drive;
+mod ends;
+mod failures;
+mod first;
+mod parse;
+mod races;
+mod refusals;
+mod script;
+mod words;
+mod yards;
+
+fn main() {
+    let mut units = [0u8; Yard::SIZE];
+    let ran = yards(&mut units);
+    number(ran.steps);
+    text(b" steps, ");
+    number(if ran.wrong <= ran.steps {
+        ran.steps - ran.wrong
+    } else {
+        0
+    });
+    text(b" as expected, ");
+    number(ran.wrong);
+    text(b" NOT as expected\n");
+}
