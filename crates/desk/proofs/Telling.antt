@@ -1,22 +1,14 @@
--- What is lent: set where the answer is 0, kept otherwise. r: what was answered; a: what the rule answers.
+-- The answers of a placing and of an offer over layouts that were read from bytes.
 use Prim.Native.Nat.{ℕ}
 use mathlib.Core.Bool.{cond}
 use mathlib.Core.Path.{_≡_, sym, ap, _∙_}
 use lib.Dec.{eqb}
-use borrow.Author.Tests.{eq-eqb, ne-eqb}
 use Rattle.layout.specs.declared.value.Layout.{Layout}
 use Rattle.layout.specs.declared.place.Placed.{Placed}
 use Rattle.layout.specs.declared.holder.Offered.{Offered}
 use Rattle.layout.specs.Value.{layOf}
 use Rattle.layout.specs.Places.{placeAnswer, placedAt, setNumber}
 use Rattle.layout.specs.Holder.{offerAnswer, offeredTo}
-use Rattle.desk.specs.Told.{told}
-
-pub told-new : {r a v new : ℕ} (held : ℕ) → r ≡ a → r ≡ 0 → v ≡ new → v ≡ told a new held
-told-new {r} {a} held answered z e = e ∙ sym (rw (eq-eqb a 0 (sym answered ∙ z)))
-
-pub told-held : {r a : ℕ} (new held : ℕ) → r ≡ a → (r ≡ 0 → ⊥) → held ≡ told a new held
-told-held {r} {a} new held answered n = sym (rw (ne-eqb a 0 (λ z. n (answered ∙ z))))
 
 -- ---- a position's set
 

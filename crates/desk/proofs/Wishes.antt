@@ -12,16 +12,16 @@ use Rattle.num.specs.Checks.{lowest}
 use Rattle.num.proofs.Tests.{and-both, or-false, cond-zero}
 use Rattle.layout.specs.declared.value.Layout.{Layout}
 use Rattle.layout.specs.declared.plan.Wish.{Wish}
-use Rattle.layout.specs.Lay.{Lay, goodSet, goodSets, _in?_, inSets, unitLimit, setsLimit, rangesLimit}
+use Rattle.layout.specs.Lay.{Lay, goodSet, goodSets, _in?_, inSets, unitLimit, setsLimit}
 use Rattle.layout.specs.Value.{padded, noChain, chainOf, unitsIn, layOf, goodValue, tidyChain}
-use Rattle.layout.specs.Codec.{setsSaid, setsAt, setsBytes, same, areSets, setsName, wishSaid}
+use Rattle.layout.specs.Codec.{setsSaid, setsAt, areSets, setsName, wishSaid}
 use Rattle.layout.specs.Plan.{badDrops, newRanges, planChecks, newOf, goodWish, goodChains, reorganiseAnswer}
 use Rattle.layout.proofs.Bools.{and-intro}
 use Rattle.layout.proofs.Goodness.{good-says}
 use Rattle.layout.proofs.Goods.{sets-some}
 use Rattle.layout.proofs.Values.{good-short, sets-back, value-of-good}
 use Rattle.layout.proofs.Parsing.{sets-length}
-use Rattle.layout.proofs.Scanning.{set-tested}
+use Rattle.layout.proofs.Scanning.{set-tested, all-good}
 use Rattle.layout.proofs.Planning.{checks-fine}
 use Rattle.desk.specs.Told.{fineSets, planRefusal}
 use Rattle.desk.specs.Made.{namedSets, emptyWish}
@@ -91,16 +91,12 @@ module _ (b : List ℕ) where
   wish-good : goodSets (setsSaid b) ≡ true → goodWish (wishSaid b) ≡ true
   wish-good g = ap goodChains chains-said ∙ chains-good setsLimit (setsSaid b) g
 
-said-good : (b : List ℕ) → areSets b ≡ true → goodSets (setsSaid b) ≡ true
-unfolding areSets
-said-good b h = and-both (goodSets (setsSaid b)) (same (length (setsSaid b) ∷ setsBytes (setsSaid b)) b) h .0
-
 fine-good : (b : List ℕ) → fineSets b ≡ true → goodSets (setsSaid b) ≡ true
 unfolding fineSets goodSets setsAt
 fine-good [] f = refl
 fine-good (x ∷ xs) f =
     let some : eqb (length (x ∷ xs)) 0 ≡ false = ne-eqb (length (x ∷ xs)) 0 (λ z. omega arith) in
-    said-good (x ∷ xs) (rw some at f)
+    all-good (x ∷ xs) (rw some at f)
 
 -- ---- the first 16 sets are as good as all of them: more are refused with 14 either way
 

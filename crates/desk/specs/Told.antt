@@ -1,22 +1,19 @@
 -- What a test on a desk is told: the layouts' own rules over bytes, with the numbers and the buffer that it lends.
 use Prim.Native.Nat.{ℕ}
 use mathlib.Core.Bool.{Bool, _||_, not, cond}
-use mathlib.Core.List.{List, [], _∷_}
+use mathlib.Core.List.{List, _∷_}
 use mathlib.Core.Path.{_≡_}
 use lib.Dec.{eqb}
 use lib.ListN.{length}
 use lib.Seq.{sets}
 use Rattle.num.specs.Checks.{lowest, _if_}
+use Rattle.num.specs.Told.{told}
 use Rattle.layout.specs.declared.value.Layout.{Layout}
 use Rattle.layout.specs.Value.{layOf, valueOf, goodValue}
 use Rattle.layout.specs.Codec.{readAnswer, readLayout, setsSaid, areSets, bytesOf, writeAnswer}
 use Rattle.layout.specs.Places.{placeAnswer, setNumber}
 use Rattle.layout.specs.Plan.{planChecks, planned, newStart, startAnswer}
 use Rattle.layout.specs.Holder.{offerAnswer}
-
--- a number that is lent: the new one where the answer is 0, and otherwise what it held
-abbrev pub told : ℕ → ℕ → ℕ → ℕ
-told answer new held = cond (eqb answer 0) new held
 
 -- 10 where the bytes are those of no good layout
 pub record IsGoodTold (b : List ℕ) (answer : ℕ) : Type 0 where

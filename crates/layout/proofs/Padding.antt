@@ -65,7 +65,7 @@ module _ {A : Type 0} where
   sets-nowhere i [] = refl
   sets-nowhere i (v ∷ vs) = sets-nowhere (suc i) vs
 
-  sets-behind : (x : A) (xs : List A) (i : ℕ) (vs : List A) → sets (x ∷ xs) (suc i) vs ≡ x ∷ sets xs i vs
+  pub sets-behind : (x : A) (xs : List A) (i : ℕ) (vs : List A) → sets (x ∷ xs) (suc i) vs ≡ x ∷ sets xs i vs
   sets-behind x xs i [] = refl
   sets-behind x xs i (v ∷ vs) = sets-behind x (set xs i v) (suc i) vs
 

@@ -77,7 +77,7 @@ spans-back low (s ∷ ss) g =
     let small : s .start < limit = ltb-true _ _ (and-both (leb low (s .start)) (ltb (s .start) limit) (q .0) .1) in
     rw (span-back s (spansBytes ss) small, past-span s (spansBytes ss), spans-back (s .start + 1) ss (p .1))
 
--- ---- layouts
+-- ---- layouts: results, as are those of values below
 
 decode-encode-parts : (e : ℕ) (us : List ℕ) (ss : List (List ℕ)) (rs : List Span) → e ≤ lastEpoch → goodSpans 0 rs ≡ true
     → _≡_ {A = Lay} (decode (leBytes 4 e ++ (counted us ++ ((length ss ∷ setsBytes ss) ++ (length rs ∷ spansBytes rs))))) (record { epoch = e; sets = ss; spans = rs })
@@ -139,7 +139,7 @@ written-read b h =
 pub bytes-once : (v w : Layout) → goodValue v ≡ true → goodValue w ≡ true → bytesOf v ≡ bytesOf w → v ≡ w
 bytes-once v w g h e = sym (read-written v g .1) ∙ ap readLayout e ∙ read-written w h .1
 
--- ---- no good layout is longer than Layout::SIZE
+-- ---- a result: no good layout is longer than Layout::SIZE, so a buffer of that size takes every one
 
 units-few : (u n : ℕ) (ss : List (List ℕ)) → length (usedFrom u n ss) ≤ n
 unfolding usedFrom
@@ -184,7 +184,7 @@ encode-small l h =
       g .spans-few,
     )
 
--- ---- new sets
+-- ---- results: new sets, written and read back
 
 pub sets-said : (ss : List (List ℕ)) → setsSaid (length ss ∷ setsBytes ss) ≡ ss
 sets-said ss = rw (append-nil (setsBytes ss)) at (sets-back ss [])

@@ -157,7 +157,7 @@ are-sets b ok past e h = rw (e, h) (go (goodSets (setsSaid b)) refl)
     go true g = exactly b g
     go false g = refl
 
-all-good : (b : List ℕ) → areSets b ≡ true → goodSets (setsSaid b) ≡ true
+pub all-good : (b : List ℕ) → areSets b ≡ true → goodSets (setsSaid b) ≡ true
 unfolding areSets
 all-good b h = and-both (goodSets (setsSaid b)) (same (length (setsSaid b) ∷ setsBytes (setsSaid b)) b) h .0
 

@@ -79,14 +79,6 @@ tail-in [] h = absurd (omega arith)
 tail-in (x ∷ []) h = in-first x x [] refl
 tail-in (x ∷ y ∷ ys) h = in-later (tailOf (y ∷ ys)) x (y ∷ ys) (tail-in (y ∷ ys) (omega arith))
 
-pub tail-greatest : (low : ℕ) (us : List ℕ) (u : ℕ) → rising low us ≡ true → (u in? us) ≡ true → u ≤ tailOf us
-unfolding tailOf
-tail-greatest low [] u r i = absurd (in-none u i)
-tail-greatest low (x ∷ []) u r i = ⊎-elim (λ e. omega arith) (λ j. absurd (in-none u j)) (in-cases u x [] i)
-tail-greatest low (x ∷ y ∷ ys) u r i =
-    let s = rises low x (y ∷ ys) r in
-    ⊎-elim (λ e. omega (arith, rises x y ys (s .rest), tail-greatest x (y ∷ ys) y (s .rest) (in-first y y ys refl))) (λ j. tail-greatest x (y ∷ ys) u (s .rest) j) (in-cases u x (y ∷ ys) i)
-
 -- ---- the unit after u
 
 -- where there is one, it is of the set and above u
@@ -140,11 +132,6 @@ after-nearest low (x ∷ xs) u v r i j h = go (eqb u x) refl (λ k m. after-near
 pub in-some : (u : ℕ) (us : List ℕ) → (u in? us) ≡ true → 1 ≤ length us
 in-some u [] i = absurd (in-none u i)
 in-some u (x ∷ xs) i = omega arith
-
--- after no unit but the tail there is none
-pub after-none-tail : (low : ℕ) (us : List ℕ) (u : ℕ) → rising low us ≡ true → (u in? us) ≡ true → after u us ≡ 0 → u ≡ tailOf us
-after-none-tail low us u r i e =
-    ⊎-elim (λ s. s) (λ h. absurd (omega (arith, after-nearest low us u (tailOf us) r i (tail-in us (in-some u us i)) h))) (eq-or-lt-of-le (tail-greatest low us u r i))
 
 -- ---- the first unit above u, of those that rise
 

@@ -7,19 +7,15 @@ use native.Mathlib.Numerals.{add-one}
 use lib.ListN.{length, getD, drop, set, drop-of-length-le}
 use lib.Seq.{sets, drop-cons}
 use Rattle.layout.specs.Value.{padded}
-use Rattle.layout.proofs.Padding.{padded-none, sets-padded}
+use Rattle.layout.proofs.Padding.{padded-none, sets-behind, sets-padded}
 
 module _ {A : Type 0} where
-  sets-later : (x : A) (xs : List A) (i : ℕ) (vs : List A) → sets (x ∷ xs) (suc i) vs ≡ x ∷ sets xs i vs
-  sets-later x xs i [] = refl
-  sets-later x xs i (v ∷ vs) = sets-later x (set xs i v) (suc i) vs
-
   -- what is stored behind a list stands behind it
   pub padded-sets : (n : ℕ) (none : A) (xs ys : List A) → length xs + length ys ≤ n → sets (padded n none xs) (length xs) ys ≡ padded n none (xs ++ ys)
   unfolding padded
   padded-sets n none [] ys h = rw (padded-none n none) (sets-padded n none ys)
   padded-sets zero none (x ∷ xs) ys h = absurd (omega arith)
-  padded-sets (suc n) none (x ∷ xs) ys h = sets-later x (padded n none xs) (length xs) ys ∙ ap (_∷_ x) (padded-sets n none xs ys (omega arith))
+  padded-sets (suc n) none (x ∷ xs) ys h = sets-behind x (padded n none xs) (length xs) ys ∙ ap (_∷_ x) (padded-sets n none xs ys (omega arith))
 
 -- the last of a list that is padded
 module _ {A : Type 0} where
@@ -51,7 +47,7 @@ module _ {A : Type 0} where
   stored-whole [] [] h = refl
   stored-whole [] (v ∷ vs) h = absurd (omega arith)
   stored-whole (x ∷ xs) [] h = absurd (omega arith)
-  stored-whole (x ∷ xs) (v ∷ vs) h = sets-later v xs 0 vs ∙ ap (_∷_ v) (stored-whole xs vs (omega arith))
+  stored-whole (x ∷ xs) (v ∷ vs) h = sets-behind v xs 0 vs ∙ ap (_∷_ v) (stored-whole xs vs (omega arith))
 
 module _ {A : Type 0} {whole vs out : List A} {j i : ℕ} (s : Stored whole vs out j i) where
   pub stored-more : (v d : A) (k : ℕ) → i < length vs → v ≡ getD vs i d → k ≡ suc j → Stored whole vs (set out j v) k (i + 1)

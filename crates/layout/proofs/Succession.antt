@@ -1,9 +1,9 @@
--- What a lawful successor keeps: the starts, the number of each old position's set, and of each old set a non-empty sublist.
+-- What a lawful successor keeps: the number of each old position's set, and of each old set a non-empty sublist.
 use Prim.Native.Nat.{ℕ, zero, suc, _+_, _-_, _%_, _<_, _≤_}
 use mathlib.Core.Bool.{Bool, true, false, _&&_, _||_, cond}
 use mathlib.Core.List.{List, [], _∷_}
 use mathlib.Core.Logic.{⊎-elim}
-use mathlib.Core.Path.{_≡_, refl, sym, _∙_}
+use mathlib.Core.Path.{_≡_, refl, _∙_}
 use native.Mathlib.Omega.{arith}
 use borrow.Author.Tests.{leb-true, ltb-true, eqb-true}
 use lib.Dec.{leb, ltb, eqb}
@@ -14,7 +14,7 @@ use Rattle.layout.specs.Places.{placed, setNumber, setAt, headOf}
 use Rattle.layout.specs.Successor.{sublist, keepsSets, keepsSpans, lawful}
 use Rattle.layout.specs.Plan.{lastStart}
 use Rattle.layout.proofs.Goodness.{Good}
-use Rattle.layout.proofs.Goods.{noSpan, number-below, set-at-good, is-good-set}
+use Rattle.layout.proofs.Goods.{number-below, set-at-good, is-good-set}
 use Rattle.layout.proofs.Sets.{in-none, in-cases, in-first, in-later, rising-within, in-units, head-in}
 
 -- ---- sets
@@ -82,14 +82,6 @@ spans-first last o n os ns k =
     let q = and-both (eqb (o .start) (n .start)) (eqb (o .uses) (n .uses)) (r .0) in
     record { start = eqb-true _ _ (q .0); uses = eqb-true _ _ (q .1); rest = r .1 }
 
--- every old range is kept
-pub spans-at : (last : ℕ) (os ns : List Span) (k : ℕ) → keepsSpans last os ns ≡ true → k < length os → getD ns k noSpan ≡ getD os k noSpan
-unfolding keepsSpans
-spans-at last [] ns k s h = absurd (omega arith)
-spans-at last (o ∷ os) [] k s h = absurd (false-true s)
-spans-at last (o ∷ os) (n ∷ ns) zero s h = let t = spans-first last o n os ns s in λ i. record { start = sym (t .start) i; uses = sym (t .uses) i }
-spans-at last (o ∷ os) (n ∷ ns) (suc k) s h = spans-at (o .start) os ns k (spans-first last o n os ns s .rest) (omega arith)
-
 -- the last start, or `last` where there is no range
 lastFrom : ℕ → List Span → ℕ
 lastFrom last [] = last
@@ -114,23 +106,6 @@ pub last-rises : (os ns : List Span) → keepsSpans 0 os ns ≡ true → length 
 unfolding lastFrom lastStart
 last-rises [] ns s h = last-above 0 [] ns s h
 last-rises (o ∷ os) ns s h = rw (← last-from o os) (last-above 0 (o ∷ os) ns s h)
-
--- with no range more the last start stays
-last-stays : (last : ℕ) (os ns : List Span) → keepsSpans last os ns ≡ true → length os ≡ length ns → lastFrom last ns ≡ lastFrom last os
-unfolding keepsSpans lastFrom
-last-stays last [] [] s h = refl
-last-stays last [] (n ∷ ns) s h = absurd (omega arith)
-last-stays last (o ∷ os) [] s h = absurd (omega arith)
-last-stays last (o ∷ os) (n ∷ ns) s h =
-    let t = spans-first last o n os ns s in
-    rw (← t .start) (last-stays (o .start) os ns (t .rest) (omega arith))
-
-pub last-same : (os ns : List Span) → keepsSpans 0 os ns ≡ true → length os ≡ length ns → lastStart ns ≡ lastStart os
-unfolding lastFrom lastStart
-last-same [] [] s h = refl
-last-same [] (n ∷ ns) s h = absurd (omega arith)
-last-same (o ∷ os) [] s h = absurd (omega arith)
-last-same (o ∷ os) (n ∷ ns) s h = rw (← last-from o os, ← last-from n ns) (last-stays 0 (o ∷ os) (n ∷ ns) s h)
 
 last-more : (n : Span) (ns : List Span) → 0 < length ns → lastStart (n ∷ ns) ≡ lastStart ns
 unfolding lastStart
@@ -173,14 +148,6 @@ module _ (old new : Lay) (law : lawful old new ≡ true) where
   lawful-parts =
       and-both (keepsSpans 0 (old .spans) (new .spans)) (keepsSets (old .sets) (new .sets))
       (and-both (keepsSpans 0 (old .spans) (new .spans) && keepsSets (old .sets) (new .sets)) (ltb (length (old .spans)) (length (new .spans)) || eqb (length (old .sets)) (length (new .sets))) law .0)
-
-  -- the starts and numbers of sets are kept
-  pub starts-kept : (k : ℕ) → k < length (old .spans) → getD (new .spans) k noSpan ≡ getD (old .spans) k noSpan
-  starts-kept k h = spans-at 0 (old .spans) (new .spans) k (lawful-parts .0) h
-
-  -- no position is renewed where there is no range more
-  pub not-renewed : (p : ℕ) → length (old .spans) ≡ length (new .spans) → ¬ Renewed old new p
-  not-renewed p h r = absurd (omega (arith, last-same (old .spans) (new .spans) (lawful-parts .0) h, r .more))
 
   pub number-kept : (p : ℕ) → ¬ Renewed old new p → setNumber new p ≡ setNumber old p
   unfolding setNumber

@@ -63,7 +63,8 @@ fn with_chain(mut s: Sets, i: usize, c: Chain) -> Sets
 // The `n` sets from `at` on; there is room for 16, and the others are passed over.
 pub(crate) fn sets_from(b: &[u8], at: usize, n: usize) -> Sets
     requires { ⌜ (at ≤ 1000) × (n ≤ 255) ⌝ }
-    ensures { λ r. ⌜ (r .sets ≡ padded 16 noChain (map chainOf (setsAt n (drop at (now (b .entry)))))) × ((drop (r .past) (now (b .entry)) ≡ pastSets n (drop at (now (b .entry)))) × (r .past ≤ at + 256 * n)) ⌝ }
+    ensures { λ r. ⌜ (r .sets ≡ padded 16 noChain (map chainOf (setsAt n (drop at (now (b .entry))))))
+        × ((drop (r .past) (now (b .entry)) ≡ pastSets n (drop at (now (b .entry)))) × (r .past ≤ at + 256 * n)) ⌝ }
 {
     let mut s = Sets {
         sets: [Chain {

@@ -1,4 +1,4 @@
--- What higher crates want of the sequencer's rules: each request done where nothing is against it, what a refusal leaves, and that the epoch never falls.
+-- Results about the sequencer's rules: each request done where nothing is against it, what a refusal leaves, and that the epoch never falls. The code's proofs cite `token-below` alone.
 use Prim.Native.Nat.{ℕ, _+_, _<_, _≤_}
 use mathlib.Core.Bool.{Bool, true, false, not, cond}
 use mathlib.Core.Option.{Option, none, some}

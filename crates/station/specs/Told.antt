@@ -1,16 +1,11 @@
 -- What a C program is told: the unit's own promises, with the numbers that it lends for the rest of an answer.
 use Prim.Native.Nat.{ℕ}
-use mathlib.Core.Bool.{cond}
 use mathlib.Core.List.{List}
 use mathlib.Core.Path.{_≡_}
-use lib.Dec.{eqb}
 use lib.ListN.{length}
+use Rattle.num.specs.Told.{told}
 use Rattle.unit.specs.Shape.{small}
 use Rattle.unit.specs.Rules.{readAnswer, readPage, readStart, sealAnswer, sealEdge, sealMemory}
-
--- a number that is lent: the new one where the answer is 0, and otherwise what it held
-abbrev pub told : ℕ → ℕ → ℕ → ℕ
-told answer new held = cond (eqb answer 0) new held
 
 -- a read, and the lent numbers before and after it
 pub record IsTold (m : List ℕ) (epoch p kind start size answer kind′ start′ size′ : ℕ) : Type 0 where

@@ -29,6 +29,7 @@ use Rattle.vouch.specs.Demand.Rightly.{that-page, trim-asked}
 use Rattle.vouch.specs.LastSentence.{Goes, begin, deliver, exchanges, reorganising, newLayout, Conditions, Answering, _▸▸_, Again}
 use Rattle.vouch.specs.LastSentence.Goes.{ends, goes}
 use Rattle.vouch.specs.LastSentence.Answering.{page, trimmed, unwritten}
+use Rattle.vouch.proofs.Together.{within-trans}
 use Rattle.vouch.proofs.Forward.{Sound, offered-good}
 use Rattle.vouch.proofs.Reread.{tail}
 use Rattle.vouch.proofs.LastSentence.{W, ready-again, read, epoch-is, tells, last-sentence}
@@ -45,15 +46,11 @@ unfolding _▸▸_
 within-more [] part = part
 within-more (m ∷ list) part = within-more list (part-of part)
 
-within-both : {ms₁ ms₂ ms₃ : Moves} → ms₁ ≼ ms₂ → ms₂ ≼ ms₃ → ms₁ ≼ ms₃
-within-both part all-of = part
-within-both part (part-of more) = part-of (within-both part more)
-
 asked-more : {l : Layout} {ms ms′ : Moves} {n : _} → ms ≼ ms′ → Asked l ms n → Asked l ms′ n
 asked-more part a = record {
   before = a .before;
   move = a .move;
-  within = within-both (a .within) part;
+  within = within-trans (a .within) part;
   client = a .client;
   begins = a .begins;
   not-refused = a .not-refused;

@@ -7,7 +7,7 @@ use Prim.Native.Nat.{ℕ, zero, suc, _≤_}
 use native.Mathlib.Omega.{arith}
 use lib.Dec.{eqb, leb}
 use lib.ListN.{length, take}
-use borrow.Author.Tests.{eqb-true, leb-false, le-leb}
+use borrow.Author.Tests.{eqb-true, leb-false, le-leb, not-false}
 use Rattle.num.specs.Limits.{limit}
 use Rattle.num.specs.Checks.{Check, lowest}
 use Rattle.num.proofs.Tests.{cond-zero}
@@ -48,11 +48,11 @@ use Rattle.vouch.proofs.Meaning.AskOk.{fetch-ok}
 use Rattle.vouch.proofs.Meaning.Waits.{waits-fetch}
 use Rattle.vouch.proofs.Turns.{TurnOk, sends-ok}
 use Rattle.vouch.proofs.Turns.TurnOk.{rests-ok}
-use Rattle.vouch.proofs.Together.{not-false, Good, Next, Or, letters-on, stages-on, client-range}
+use Rattle.vouch.proofs.Together.{Good, Next, Or, letters-on, stages-on, client-range}
 use Rattle.vouch.proofs.Together.Or.{either, other}
 use Rattle.vouch.proofs.Turning.{refused-ok, turned-ok}
 
--- ---- the page of an append: its first len bytes, as data
+-- ---- the page of an append: its first len bytes, as data (`data-bytes` is a result, which specs/Runs names)
 
 take-padded : (n m : ℕ) (xs : List ℕ) → n ≤ m → n ≤ length xs → take n (padded m 0 (take n xs)) ≡ take n xs
 unfolding padded

@@ -28,7 +28,7 @@ use Rattle.vouch.proofs.GoodMap.{good-map}
 use Rattle.vouch.proofs.Untouched.{fresh-is}
 use Rattle.vouch.proofs.UnitIs.{UnitIs}
 use Rattle.vouch.proofs.Meaning.{StageOk, OutcomeOk}
-use Rattle.vouch.proofs.Walking.{epoch-of}
+use Rattle.vouch.proofs.GoodMap.{epoch-of}
 use Rattle.vouch.proofs.Lists.All.{all-none}
 use Rattle.vouch.proofs.Together.{Good, Next, Or}
 use Rattle.vouch.proofs.Together.Or.{either, other}

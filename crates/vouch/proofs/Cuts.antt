@@ -44,7 +44,8 @@ use Rattle.vouch.proofs.Meaning.Waits.{waits-read, waits-trim, waits-pr
 use Rattle.vouch.proofs.Turns.{TurnOk, other-quiet, quiet-ok, ends-ok, sends-ok, otherwise-ok}
 use Rattle.vouch.proofs.Turns.TurnOk.{over-ok}
 use Rattle.vouch.proofs.Turns.Other.{is-trim, is-prune}
-use Rattle.vouch.proofs.Walking.{epoch-of, is-good, walk-next, trim-vouches, look-vouches, prune-vouches}
+use Rattle.vouch.proofs.GoodMap.{epoch-of}
+use Rattle.vouch.proofs.Walking.{is-good, walk-next, trim-vouches, look-vouches, prune-vouches}
 use Rattle.vouch.proofs.Appends.{after-is}
 
 -- ---- trim

@@ -53,7 +53,7 @@ use Rattle.vouch.proofs.Safety.{safe}
 use Rattle.vouch.proofs.UnitIs.{ReadDone}
 use Rattle.vouch.proofs.UnitIs.ReadDone.{read-page, read-trimmed, read-unwritten, no-read}
 use Rattle.vouch.proofs.Reading.{read-does}
-use Rattle.vouch.proofs.Walking.{epoch-of}
+use Rattle.vouch.proofs.GoodMap.{epoch-of}
 use Rattle.vouch.proofs.Machines.{unit-range, unit-runs}
 use Rattle.vouch.proofs.Meaning.{AskOk, LookOk, AppendedOk, WasRead}
 use Rattle.vouch.proofs.Meaning.AskOk.{look-ok}
@@ -136,9 +136,9 @@ module _ (l : Layout) (good : goodValue l ≡ true) (first : l .epoch .0 ≡ 1) 
 
   -- ---- one page, asked for
 
-  one : {ms ms₁ ms₂ : Moves} {m₁ m₂ : Move} {p : Pos} {e₁ e₂ : Epoch} {X Y : Page} →
+  same-page : {ms ms₁ ms₂ : Moves} {m₁ m₂ : Move} {p : Pos} {e₁ e₂ : Epoch} {X Y : Page} →
       ms₁ ▸ m₁ ≼ ms → ms₂ ▸ m₂ ≼ ms → ReadEnds l ms₁ m₁ p e₁ (shows X) → ReadEnds l ms₂ m₂ p e₂ (shows Y) → X ≡ Y
-  one {ms} part₁ part₂ read₁ read₂ =
+  same-page {ms} part₁ part₂ read₁ read₂ =
       let r₁ = read-was read₁ in
       let r₂ = read-was read₂ in
       safe (runs ms) .reads-agree (part-trans (r₁ .past) (come-part l good first part₁)) (part-trans (r₂ .past) (come-part l good first part₂)) (r₁ .read) (r₂ .read)
@@ -224,7 +224,7 @@ module _ (l : Layout) (good : goodValue l ≡ true) (first : l .epoch .0 ≡ 1) 
 
   -- Every run of the yard meets demand 3's first sentences.
   pub demand-3 : Demand3 l
-  demand-3 = record { one-page = one; page-asked = page-was-asked; after-done = done-stays }
+  demand-3 = record { one-page = same-page; page-asked = page-was-asked; after-done = done-stays }
 
   -- ---- so that this does not speak of nothing
 

@@ -8,7 +8,7 @@ use native.Mathlib.Omega.{arith}
 use borrow.Author.Tests.{eq-eqb, ne-eqb, le-leb, leb-true, not-true, eqb-true}
 use lib.Dec.{eqb, leb}
 use lib.ListN.{length, getD}
-use Rattle.num.proofs.Tests.{and-both, false-true}
+use Rattle.num.proofs.Tests.{and-both, false-true, neither}
 use Rattle.layout.specs.Lay.{_in?_, inSets, unitsOf}
 use Rattle.layout.specs.Plan.{without, badDrops, emptied}
 use Rattle.layout.proofs.Bools.{and-intro}
@@ -18,17 +18,13 @@ use Rattle.vouch.specs.LastSentence.{stoppedFrom, WorkingUnit}
 
 -- ---- the stopped units
 
-or-none : (a b : Bool) → a ≡ false → b ≡ false → (a || b) ≡ false
-or-none true b e f = cc
-or-none false b e f = f
-
 below-none : (k : ℕ) (bs : List Bool) (u : ℕ) → u < k → (u in? stoppedFrom k bs) ≡ false
 unfolding stoppedFrom _in?_
 below-none k [] u lt = refl
 below-none k (b ∷ bs) u lt = go b (below-none (suc k) bs u (omega arith))
   where
     go : (b : Bool) → (u in? stoppedFrom (suc k) bs) ≡ false → (u in? cond b (k ∷ stoppedFrom (suc k) bs) (stoppedFrom (suc k) bs)) ≡ false
-    go true e = or-none (eqb u k) (u in? stoppedFrom (suc k) bs) (ne-eqb u k (λ z. omega arith)) e
+    go true e = neither (eqb u k) (u in? stoppedFrom (suc k) bs) (ne-eqb u k (λ z. omega arith)) e
     go false e = e
 
 stopped-in : (k : ℕ) (bs : List Bool) (u i : ℕ) → i < length bs → u ≡ k + i → (u in? stoppedFrom k bs) ≡ getD bs i true
@@ -113,7 +109,7 @@ module _ (stopped : List Bool) (eight : length stopped ≡ 8) where
   none-emptied [] has = refl
   none-emptied (us ∷ sets) has =
       let one = has 0 (omega arith) in
-      or-none (eqb (length (without drops us)) 0) (emptied drops sets)
+      neither (eqb (length (without drops us)) 0) (emptied drops sets)
       (ne-eqb (length (without drops us)) 0 (λ z. omega (arith, in-some (one .unit) (without drops us) (without-keeps drops us (one .unit) (one .inside) (working-stays (one .unit) (one .works))))))
       (none-emptied sets (λ k lt. has (suc k) (omega arith)))
 

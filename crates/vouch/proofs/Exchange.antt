@@ -1,5 +1,5 @@
 -- A request delivered once and dropped, and so its answer, with no other step between: what the yard is afterwards.
--- Rests on the yard's and the client's rules.
+-- Rests on Lists and on the yard's and the client's rules.
 use mathlib.Core.Path.{_≡_, refl, sym, ap, subst, _∙_}
 use mathlib.Core.Bool.{Bool, true, false, not, _||_, cond}
 use mathlib.Core.List.{List, [], _∷_, _++_}
@@ -9,7 +9,7 @@ use borrow.Author.Tests.{leb-true, lt-leb, le-ltb, eq-eqb}
 use lib.Dec.{leb}
 use lib.ListN.{length, length-append, set}
 use lib.Seq.{getD-append-seam, getD-set-same, set-set}
-use Rattle.num.proofs.Tests.{and-both}
+use Rattle.num.proofs.Tests.{and-both, neither}
 use Rattle.layout.specs.declared.value.Layout.{Layout}
 use Rattle.unit.specs.State.{State}
 use Rattle.sequencer.specs.declared.Sequencer.{Sequencer}
@@ -17,8 +17,6 @@ use Rattle.client.specs.declared.message.Query.{Query}
 use Rattle.client.specs.declared.message.Response.{Response}
 use Rattle.client.specs.declared.message.Stamp.{Stamp}
 use Rattle.client.specs.declared.state.Client.{Client}
-use Rattle.client.specs.declared.turn.Act.{Act}
-use Rattle.client.specs.declared.turn.Act.the-variants.{Rests, Sends, Ends}
 use Rattle.client.specs.declared.turn.Turn.{Turn}
 use Rattle.client.specs.Client.{fresh, lastNumber}
 use Rattle.client.specs.Turn.{numbered, next, sends}
@@ -26,10 +24,11 @@ use Rattle.client.specs.Take.{answered, awaited, takes}
 use Rattle.yard.specs.declared.letter.Letter.{Letter}
 use Rattle.yard.specs.World.{World, isClient, clientAt, blankLetter}
 use Rattle.yard.specs.Serve.{Served, serve, unserved}
-use Rattle.yard.specs.Steps.{Done, fine, without, tooMany, request, posted, ended, sentBy, turned, answerTo, served, taken, delivered, delivers, step}
+use Rattle.yard.specs.Steps.{Done, fine, without, tooMany, request, ended, sentBy, turned, answerTo, served, taken, delivered, delivers, step}
 use Rattle.vouch.specs.Runs.{Move, result}
 use Rattle.vouch.specs.LastSentence.{Goes, deliver}
 use Rattle.vouch.specs.LastSentence.Goes.{ends, goes}
+use Rattle.vouch.proofs.Lists.{posted-few}
 
 -- ---- tests
 
@@ -45,21 +44,12 @@ pub not-so : (b : Bool) → b ≡ true → not b ≡ false
 not-so true e = refl
 not-so false e = cc
 
-neither : (a b : Bool) → a ≡ false → b ≡ false → (a || b) ≡ false
-neither true b e f = cc
-neither false b e f = f
-
 -- ---- the last letter
 
 without-last : (ls : List Letter) (l : Letter) → without (length ls) (ls ++ l ∷ []) ≡ ls
 unfolding without
 without-last [] l = refl
 without-last (x ∷ xs) l = ap (λ ys. x ∷ ys) (without-last xs l)
-
-posted-few : (c life : ℕ) (a : Act) (q : Query) → length (posted c life a q) ≤ 1
-posted-few c life Rests q = omega arith
-posted-few c life (Sends n) q = omega arith
-posted-few c life Ends q = omega arith
 
 -- ---- a move whose end is known
 

@@ -8,7 +8,9 @@ use mathlib.Core.Logic.{⊎-elim}
 use Prim.Native.Nat.{ℕ, _≤_}
 use native.Mathlib.Omega.{arith}
 use Rattle.num.specs.Limits.{lastEpoch}
+use Rattle.layout.specs.declared.value.Layout.{Layout}
 use Rattle.layout.specs.Lay.{Lay, rising, good, _in?_, unitsOf}
+use Rattle.layout.specs.Value.{layOf}
 use Rattle.layout.specs.Places.{setAt}
 use Rattle.layout.specs.Successor.{lawful}
 use Rattle.layout.proofs.Goodness.{good-says}
@@ -48,6 +50,11 @@ good-map l g = record {
   set-rises = λ p. up 0 (setAt l p) (set-rising l g p);
   set-within = λ p u there. to-in (unitsOf (l .sets)) (at-in-units l (good-says l g) p u (of-in there));
 }
+
+-- the epoch of a value is that of its map
+pub epoch-of : (l : Layout) → mapOf (layOf l) .epoch ≡ l .epoch .0
+unfolding layOf
+epoch-of l = refl
 
 pub epoch-small : (l : Lay) → good l ≡ true → l .epoch ≤ lastEpoch
 epoch-small l g = good-says l g .high

@@ -19,7 +19,6 @@ pub mod Writing
 pub mod Trimming
 pub mod Sealing
 pub mod Reading
-pub mod Stored
 pub mod Offers
 pub mod Plans
 -- Letters, clients and the tie.
@@ -55,7 +54,6 @@ pub mod Forward
 pub mod Installing
 pub mod Reorganising
 pub mod LastSentence
-pub mod Retold
 pub mod Again
 pub mod Soundness
 pub mod Closing

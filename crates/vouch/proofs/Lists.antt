@@ -1,5 +1,5 @@
 -- Lists of letters, units and clients: what holds of each, and one place changed.
--- Rests on nothing.
+-- Rests on the yard's rules.
 use mathlib.Core.Path.{_≡_, sym, subst}
 use mathlib.Core.List.{List, [], _∷_, _++_}
 use Prim.Native.Nat.{ℕ, zero, suc, _-_, _≤_}
@@ -7,8 +7,11 @@ use native.Mathlib.Omega.{arith}
 use native.Mathlib.Decide.{ℕ-discrete}
 use lib.ListN.{length, getD, set}
 use lib.Seq.{getD-set-same, getD-set-other}
+use Rattle.client.specs.declared.message.Query.{Query}
+use Rattle.client.specs.declared.turn.Act.{Act}
+use Rattle.client.specs.declared.turn.Act.the-variants.{Rests, Sends, Ends}
 use Rattle.yard.specs.declared.letter.Letter.{Letter}
-use Rattle.yard.specs.Steps.{without}
+use Rattle.yard.specs.Steps.{without, posted}
 
 pub data All {A : Type 0} (P : A → Type 0) : List A → Type 0 where
   all-none : All P []
@@ -31,6 +34,12 @@ unfolding without
 all-without i [] all-none = all-none
 all-without zero (l ∷ ls) (all-more p ps) = ps
 all-without (suc i) (l ∷ ls) (all-more p ps) = all-more p (all-without i ls ps)
+
+-- a turn posts one letter or none
+pub posted-few : (c life : ℕ) (a : Act) (q : Query) → length (posted c life a q) ≤ 1
+posted-few c life Rests q = omega arith
+posted-few c life (Sends n) q = omega arith
+posted-few c life Ends q = omega arith
 
 -- of the one at a place, if of the one that stands for none
 pub all-at : {A : Type 0} {P : A → Type 0} (xs : List A) (i : ℕ) (d : A) → All P xs → P d → P (getD xs i d)

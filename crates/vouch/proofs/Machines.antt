@@ -52,7 +52,7 @@ use Rattle.vouch.proofs.Sealing.{seal-does}
 use Rattle.vouch.proofs.Reading.{read-does}
 use Rattle.vouch.proofs.Offers.{OfferDone, offer-does, fetch-does}
 use Rattle.vouch.proofs.Offers.OfferDone.{installed, not-installed}
-use Rattle.vouch.proofs.Walking.{epoch-of}
+use Rattle.vouch.proofs.GoodMap.{epoch-of}
 use Rattle.vouch.proofs.Lists.{set-all}
 use Rattle.vouch.proofs.Meaning.{AskOk, Means}
 use Rattle.vouch.proofs.Meaning.AskOk.{fetch-ok, token-ok, write-ok, look-ok, trim-ok, prune-ok, seal-ok, offer-ok, start-ok}

@@ -18,9 +18,6 @@ use Rattle.client.specs.declared.message.Ask.{Ask}
 use Rattle.client.specs.declared.message.Ask.the-variants.{Fetch, Token, Write, Read, Trim, Prune, Seal, Offer, Start}
 use Rattle.client.specs.declared.message.Page.{Page as PageValue}
 use Rattle.client.specs.declared.state.Job.{Job}
-use Rattle.client.specs.declared.turn.Act.{Act}
-use Rattle.client.specs.declared.turn.Act.the-variants.{Rests, Sends, Ends}
-use Rattle.client.specs.declared.message.Query.{Query}
 use Rattle.client.specs.declared.turn.Turn.{Turn}
 use Rattle.client.specs.Client.{busy, lastNumber}
 use Rattle.client.specs.Turn.{rests, over, ends}
@@ -34,11 +31,11 @@ use Rattle.yard.specs.declared.state.Step.{Step}
 use Rattle.yard.specs.declared.state.Step.the-variants.{Begin, Deliver, Drop, Stop, Restart, GiveUp, Forget}
 use Rattle.yard.specs.World.{World, isClient, isUnit, running, clientAt, unitAt, letterAt, letterLimit}
 use Rattle.yard.specs.Serve.{withUnit, serve, asking, offeringTo, unserved, kindOf, bytesOf}
-use Rattle.yard.specs.Steps.{Done, refused, fine, without, keeping, tooMany, withLetters, withClient, withStopped, posted, sentBy, turned, beginNumber, begins, answers, served, taken, unbrought, brought, delivered, delivers, drops, stops, restartNumber, restarts, givesUp, forgets, response, step}
+use Rattle.yard.specs.Steps.{Done, refused, fine, without, keeping, tooMany, withLetters, withClient, withStopped, sentBy, turned, beginNumber, begins, answers, served, taken, unbrought, brought, delivered, delivers, drops, stops, restartNumber, restarts, givesUp, forgets, response, step}
 use Rattle.yard.specs.Fresh.{freshUnits, freshWorld}
 use Rattle.vouch.specs.Runs.{Moves, world}
 use Rattle.vouch.specs.Runs.Moves.{none, _▸_}
-use Rattle.vouch.proofs.Lists.{set-all}
+use Rattle.vouch.proofs.Lists.{posted-few, set-all}
 use Rattle.vouch.proofs.Machines.{unit-range, unit-runs}
 use Rattle.vouch.proofs.Coming.{fresh-unit}
 
@@ -117,11 +114,6 @@ serve-tidy w Offer g k ls to few tidy = tidy-as refl few tidy
 serve-tidy w (Start e p) g k ls to few tidy = tidy-as refl few tidy
 
 -- ---- every step
-
-posted-few : (c life : ℕ) (a : Act) (q : Query) → length (posted c life a q) ≤ 1
-posted-few c life Rests q = omega arith
-posted-few c life (Sends n) q = omega arith
-posted-few c life Ends q = omega arith
 
 without-few : (i : ℕ) (ls : List Letter) → length (without i ls) ≤ length ls
 unfolding without

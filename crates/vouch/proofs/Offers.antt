@@ -24,7 +24,7 @@ use Rattle.vouch.specs.Edges.{SealAnswer}
 use Rattle.vouch.specs.Layouts.{mapOf}
 use Rattle.vouch.proofs.Epochs.{held-laid, laid-one}
 use Rattle.vouch.proofs.Edges.{may-install}
-use Rattle.vouch.proofs.GoodMap.{good-map, lawful-successor, source-itself}
+use Rattle.vouch.proofs.GoodMap.{good-map, epoch-of, lawful-successor, source-itself}
 
 -- ---- what a reorganise sees to before it offers
 
@@ -43,10 +43,6 @@ pub record OfferOk (h : History) (l : Layout) : Type 0 where
 record Plain (old new : Map) : Type 0 where
   successor : Successor old new
   itself : (p : Pos) (u : UnitNo) → successor .source p u ≡ u
-
-epoch-of : (l : Layout) → mapOf (layOf l) .epoch ≡ l .epoch .0
-unfolding layOf
-epoch-of l = refl
 
 pub install-does : {h : History} (k l : Layout) → Run h → held h ≡ mapOf (layOf k) → OfferOk h l → offerAnswer k l ≡ 0 → MayInstall h (mapOf (layOf l))
 install-does {h} k l run holds offer fine =

@@ -2,12 +2,11 @@
 -- Rests on UnitIs, Writing and the unit's laws.
 use mathlib.Core.Path.{_≡_, refl, sym, ap, subst, _∙_}
 use mathlib.Core.Bool.{Bool, true, false, cond}
-use Prim.Native.Nat.{ℕ, _≤_, _<_}
+use Prim.Native.Nat.{ℕ, _≤_}
 use native.Mathlib.Omega.{arith}
 use borrow.Author.Tests.{ltb-true, ltb-false, le-leb}
 use lib.Dec.{eqb, ltb}
 use lib.ListN.{length}
-use Rattle.num.specs.Limits.{limit}
 use Rattle.layout.specs.Value.{blank}
 use Rattle.layout.proofs.Padding.{padded-front}
 use Rattle.unit.specs.Shape.{small}
@@ -27,11 +26,10 @@ use Rattle.yard.specs.Serve.{pageOf as slotPage, shown as reading}
 use Rattle.vouch.specs.Words.{UnitNo, Epoch}
 use Rattle.vouch.specs.Words.Answer.{shows, trimmed, unwritten}
 use Rattle.vouch.specs.Maps.{Map, Has}
-use Rattle.vouch.specs.History.{History, Laid, sealed}
+use Rattle.vouch.specs.History.{History, Laid}
 use Rattle.vouch.specs.Safety.{Answers}
 use Rattle.vouch.specs.Pages.{pageOf, carried}
-use Rattle.vouch.proofs.UnitIs.{answerOf, UnitIs, ReadTaken, ReadDone}
-use Rattle.vouch.proofs.UnitIs.ReadTaken.{taken-page, taken-trimmed, taken-unwritten}
+use Rattle.vouch.proofs.UnitIs.{answerOf, UnitIs, ReadDone}
 use Rattle.vouch.proofs.UnitIs.ReadDone.{read-page, read-trimmed, read-unwritten, no-read}
 use Rattle.vouch.proofs.Writing.{empty-answers, page-answers, takes-of}
 
@@ -71,17 +69,6 @@ module _ {h : History} {u : UnitNo} {M : State} (is : UnitIs h u M) (p : ℕ) wh
   is-page s same a b =
       let page-is = page-answers (shown M p) a b ∙ ap shows (sym (carried-slot (shown M p) (shown-short M p (is .is-valid) a b))) in
       subst (λ t. Answers h u p (shows (carried (slotPage t)))) (sym same) (subst (λ r. Answers h u p r) page-is (is .shown-is p))
-
-  taken-told : {e : Epoch} (n : ℕ) (s : Slot) → (n ≡ 0 → s ≡ shown M p) → M .sealed < e → p < limit → ReadTells M e p n → ReadTaken h u p (told n s)
-  taken-told n s same lt below (tells-position a) = absurd (omega arith)
-  taken-told n s same lt below (tells-sealed a) = absurd (omega arith)
-  taken-told n s same lt below (tells-trimmed x a) = taken-trimmed (is-gone a)
-  taken-told n s same lt below (tells-unwritten x a) = taken-unwritten (is-empty a)
-  taken-told n s same lt below (tells-page x a b) = taken-page (is-page s (same refl) a b)
-
-  pub read-taken : (e : Epoch) → sealed h u < e → p < limit → ReadTaken h u p (reading M e p)
-  unfolding reading
-  read-taken e lt below = taken-told (readSays M e p) (readShows M e p) (read-shown M e p) (omega (arith, is .sealed-is)) below (read-tells M e p)
 
 module _ {h : History} {u : UnitNo} {M : State} {L : Map} {e : Epoch} (is : UnitIs h u M) (laid : Laid h L) (has : Has L u) (at : L .epoch ≡ e) (p : ℕ) where
   read-told : (n : ℕ) (s : Slot) → (n ≡ 0 → s ≡ shown M p) → ReadTells M e p n → ReadDone h u L p (told n s)

@@ -3,19 +3,17 @@
 use mathlib.Core.Path.{_≡_, sym, subst, _∙_}
 use Prim.Native.Nat.{_≤_}
 use native.Mathlib.Omega.{arith}
-use borrow.Author.Tests.{le-ltb}
 use Rattle.num.specs.Limits.{lastEpoch}
 use Rattle.unit.specs.Shape.{small}
 use Rattle.unit.specs.State.{State, edge}
-use Rattle.unit.specs.Unit.{sealSays, sealTells, sealUnit}
+use Rattle.unit.specs.Unit.{sealSays, sealUnit}
 use Rattle.unit.proofs.Answers.{by-answer}
 use Rattle.unit.proofs.Lookup.{edge-limit}
 use Rattle.unit.proofs.Lasting.{seal-finds, seal-lasts, seal-edge}
 use Rattle.unit.proofs.Shown.{seal-shown, seal-refused}
-use Rattle.client.specs.declared.message.Reply.the-variants.{Edge}
 use Rattle.yard.specs.Serve.{edged}
 use Rattle.vouch.specs.Words.{UnitNo, Epoch}
-use Rattle.vouch.specs.History.{History, held, sealed}
+use Rattle.vouch.specs.History.{History, held}
 use Rattle.vouch.specs.History.Event.{seal}
 use Rattle.vouch.specs.History.History.{_▹_}
 use Rattle.vouch.specs.Edges.{SealAnswer}
@@ -44,8 +42,3 @@ module _ {h : History} {u : UnitNo} {M : State} (is : UnitIs h u M) (n : Epoch) 
       (subst (λ g. SealAnswer (h ▹ seal u n) u n g) (sym (seal-edge M n z .0)) (seal-answers (edge-is is)))
       (omega (arith, seal-edge M n z .0, edge-limit small M (is .is-valid))))
       (λ k. no-seal k (subst (λ N. UnitIs h u N) (sym (seal-refused M n k)) is))
-
--- forward: a seal that is not below the sealed epoch is fine
-pub seal-fine : {h : History} {u : UnitNo} {M : State} → UnitIs h u M → (n : Epoch) → sealed h u ≤ n → edged M n ≡ Edge (record { 0 = edge M })
-unfolding edged sealSays sealTells
-seal-fine {M = M} is n le = rw (le-ltb n (M .sealed) (omega (arith, is .sealed-is)))

@@ -7,7 +7,7 @@ use Prim.Native.Nat.{ℕ, _+_, _-_, _≤_}
 use native.Mathlib.Omega.{arith}
 use lib.Dec.{eqb, leb, ltb}
 use lib.ListN.{length, set}
-use borrow.Author.Tests.{eqb-true}
+use borrow.Author.Tests.{eqb-true, not-false}
 use Rattle.num.proofs.Tests.{cond-zero}
 use Rattle.layout.specs.declared.value.Layout.{Layout}
 use Rattle.sequencer.specs.declared.Asked.the-variants as asked
@@ -29,7 +29,7 @@ use Rattle.vouch.proofs.Lists.{all-without}
 use Rattle.vouch.proofs.Machines.{Machines}
 use Rattle.vouch.proofs.Turns.{TurnOk, quiet-ok, ends-ok}
 use Rattle.vouch.proofs.Turns.TurnOk.{rests-ok}
-use Rattle.vouch.proofs.Together.{not-false, NotLater, Good, Next, client-range}
+use Rattle.vouch.proofs.Together.{NotLater, Good, Next, client-range}
 use Rattle.vouch.proofs.Together.NotLater.{older-life, this-life}
 use Rattle.vouch.proofs.Turning.{later-letters, silent, refused-ok, with-letters, same-client, new-client, idle-newer, turned-ok}
 use Rattle.vouch.proofs.Asking.{begin-ok}

@@ -1,13 +1,13 @@
 -- The yard and the history go together: `Good`. What a letter in the bag vouches for, and that an answer which is taken answers the outstanding request.
 -- Rests on Machines, Lasting, Lists and specs/Runs.
-use mathlib.Core.Path.{_≡_, refl, sym}
-use mathlib.Core.Bool.{Bool, true, false, not}
+use mathlib.Core.Path.{_≡_, refl}
+use mathlib.Core.Bool.{true}
 use mathlib.Core.List.{List}
 use Prim.Native.Nat.{ℕ, _-_, _≤_, _<_}
 use lib.Dec.{leb}
 use lib.ListN.{length, getD, set}
 use borrow.Author.Tests.{leb-true}
-use Rattle.num.proofs.Tests.{false-true, and-both}
+use Rattle.num.proofs.Tests.{and-both}
 use Rattle.layout.specs.declared.value.Layout.{Layout}
 use Rattle.client.specs.declared.message.Page.{Page as PageValue}
 use Rattle.client.specs.declared.message.Ask.{Ask}
@@ -99,13 +99,9 @@ pub record Next (l : Layout) (ms : Moves) (m : Move) (h : History) (w : World) (
   pub asked : (n : Note) → Noted now n → Or (Noted h n) (Asked l (ms ▸ m) n)
   pub outcome-ok : (c : ℕ) → 1 ≤ c → c ≤ 4 → d .who ≡ c → OutcomeOk now (clientAt w c .work) (clientAt w c .page) (d .outcome)
 
--- ---- tests and places
+-- ---- places
 
-pub not-false : (b : Bool) → not b ≡ false → b ≡ true
-not-false true e = refl
-not-false false e = absurd (false-true (sym e))
-
--- a letter at a place where one lies
+-- a letter where one lies
 pub letter-there : {l : Layout} {ms : Moves} {h : History} {w : World} → Good l ms h w → (i : ℕ) → ¬ (letterAt w i .body ≡ Blank) → LetterOk l ms h (w .clients) (letterAt w i)
 letter-there {l} {ms} {h} {w} good i filled =
     go (all-at {P = λ letter. Or (LetterOk l ms h (w .clients) letter) (letter .body ≡ Blank)} (w .letters) i blankLetter

@@ -60,13 +60,7 @@ pub data SealDone (h : History) (u : UnitNo) (n : Epoch) (M : State) : Reply →
   did-seal : {g : Position} → MaySeal h u n → UnitIs (h ▹ seal u n) u M → SealAnswer (h ▹ seal u n) u n (g .0) → g .0 ≤ limit → SealDone h u n M (Edge g)
   no-seal : {k : ℕ} → ¬ (k ≡ 0) → UnitIs h u M → SealDone h u n M (Refused k)
 
--- a read that the unit takes: its epoch is above the sealed one, the position below 2^40. It leaves the unit as it was
-pub data ReadTaken (h : History) (u : UnitNo) (p : Pos) : Response → Type 0 where
-  taken-page : {g : PageValue} → Answers h u p (shows (carried g)) → ReadTaken h u p (record { reply = Shown; page = g; layout = blank })
-  taken-trimmed : Answers h u p trimmed → ReadTaken h u p (bare (Refused 5))
-  taken-unwritten : Answers h u p unwritten → ReadTaken h u p (bare (Refused 7))
-
--- any read
+-- a read leaves the unit as it was
 pub data ReadDone (h : History) (u : UnitNo) (L : Map) (p : Pos) : Response → Type 0 where
   read-page : {g : PageValue} → Takes h u L → Answers h u p (shows (carried g)) → ReadDone h u L p (record { reply = Shown; page = g; layout = blank })
   read-trimmed : Takes h u L → Answers h u p trimmed → ReadDone h u L p (bare (Refused 5))

@@ -1,6 +1,6 @@
 -- What each event does to a unit, and what it leaves alone: so that a unit's memory and the history go together.
--- Rests on laws A and B.
-use mathlib.Core.Path.{_≡_, refl, sym, ap}
+-- Rests on specs/Edges and Safety.
+use mathlib.Core.Path.{_≡_, refl, sym}
 use mathlib.Core.Bool.{Bool, true, false, cond}
 use Prim.Native.Nat.{_≤_, _<_}
 use lib.Dec.{eqb}
@@ -13,11 +13,9 @@ use Rattle.vouch.specs.History.Event.{ask, write, trim, prune, seal, ins
 use Rattle.vouch.specs.History.History.{_▹_}
 use Rattle.vouch.specs.History.Mark.{gone}
 use Rattle.vouch.specs.History.Marked.{marked-write, marked-trim, marked-prune, marked-before}
-use Rattle.vouch.specs.Events.{Run}
 use Rattle.vouch.specs.Edges.{Edge}
 use Rattle.vouch.specs.Safety.{Answers}
 use Rattle.vouch.specs.Safety.Answers.{has-page, has-gone, has-none}
-use Rattle.vouch.proofs.Marks.{page-one}
 
 -- ---- what an event touches
 
@@ -75,22 +73,6 @@ trim-shows = has-gone marked-trim
 
 pub prune-shows : {h : History} {u : UnitNo} {L : Map} {p q : Pos} → p < q → Answers (h ▹ prune u L q) u p trimmed
 prune-shows below = has-gone (marked-prune below)
-
--- what is trimmed stays so: a trim of a trimmed position, or a prune up to the floor or below it, changes nothing
-pub trimmed-on : {h : History} {ev : Event} {u : UnitNo} {p : Pos} → Answers h u p trimmed → Answers (h ▹ ev) u p trimmed
-trimmed-on (has-gone mk) = has-gone (marked-before mk)
-
--- a unit gives one answer
-pub answers-one : {h : History} {u : UnitNo} {p : Pos} {r₁ r₂ : Answer} → Run h → Answers h u p r₁ → Answers h u p r₂ → r₁ ≡ r₂
-answers-one run (has-page mk₁ still₁) (has-page mk₂ still₂) = ap shows (page-one run mk₁ mk₂)
-answers-one run (has-page mk₁ still) (has-gone mk₂) = absurd (still _ mk₂)
-answers-one run (has-page mk none) (has-none unmarked) = absurd (unmarked _ _ mk)
-answers-one run (has-gone mk₁) (has-page mk₂ still) = absurd (still _ mk₁)
-answers-one run (has-gone mk₁) (has-gone mk₂) = refl
-answers-one run (has-gone mk) (has-none unmarked) = absurd (unmarked _ _ mk)
-answers-one run (has-none unmarked) (has-page mk still) = absurd (unmarked _ _ mk)
-answers-one run (has-none unmarked) (has-gone mk) = absurd (unmarked _ _ mk)
-answers-one run (has-none unmarked₁) (has-none unmarked₂) = refl
 
 -- ---- the sealed epoch
 

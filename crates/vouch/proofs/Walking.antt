@@ -1,6 +1,6 @@
 -- A walk along the set of a position, or along the units of a layout: what the next request vouches for, and what is settled after the last.
 -- Rests on Meaning and Walks.
-use mathlib.Core.Path.{_≡_, refl, subst}
+use mathlib.Core.Path.{_≡_, subst}
 use mathlib.Core.Bool.{true}
 use Prim.Native.Nat.{_≤_, _<_}
 use native.Mathlib.Omega.{arith}
@@ -19,15 +19,11 @@ use Rattle.vouch.specs.History.Mark.{page, gone}
 use Rattle.vouch.specs.Safety.{Settled}
 use Rattle.vouch.specs.Layouts.{mapOf}
 use Rattle.vouch.proofs.Order.{before-in, before-less, less-before}
-use Rattle.vouch.proofs.GoodMap.{good-map}
+use Rattle.vouch.proofs.GoodMap.{good-map, epoch-of}
 use Rattle.vouch.proofs.Walks.{head-serves, head-least, after-serves, after-next, after-last}
 use Rattle.vouch.proofs.Meaning.{WriteOk, TrimOk, PruneOk, LookOk, WrittenBefore, Fetched, Walking}
 use Rattle.vouch.proofs.Epochs.{laid-one}
 use Rattle.vouch.specs.Events.{Run}
-
-pub epoch-of : (l : Layout) → mapOf (layOf l) .epoch ≡ l .epoch .0
-unfolding layOf
-epoch-of l = refl
 
 module _ {h : History} {l : Layout} (fetched : Fetched h l) where
   pub is-good : good (layOf l) ≡ true

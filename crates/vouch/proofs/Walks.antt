@@ -50,9 +50,6 @@ module _ (l : Lay) (g : good l ≡ true) (p : Pos) where
     pub after-serves : ¬ (after u (setAt l p) ≡ 0) → Serves (mapOf l) p (after u (setAt l p))
     after-serves more = to-in (setAt l p) (after-is 0 (setAt l p) u (set-rising l g p) more .inside)
 
-    pub after-above : ¬ (after u (setAt l p) ≡ 0) → u < after u (setAt l p)
-    after-above more = after-is 0 (setAt l p) u (set-rising l g p) more .higher
-
     -- between u and the unit after it stands none, and behind the last none
     pub after-next : {v : UnitNo} → Serves (mapOf l) p u → Serves (mapOf l) p v → v < after u (setAt l p) → v ≤ u
     after-next {v} su sv lt = go (decLt u v)
@@ -73,9 +70,6 @@ module _ (l : Lay) (g : good l ≡ true) (p : Pos) where
 module _ (l : Lay) (u : UnitNo) where
   pub next-has : ¬ (nextUnit l u ≡ 0) → Has (mapOf l) (nextUnit l u)
   next-has more = to-in (unitsOf (l .sets)) (above-next (unitsOf (l .sets)) u more .inside)
-
-  pub next-above : ¬ (nextUnit l u ≡ 0) → u < nextUnit l u
-  next-above more = above-next (unitsOf (l .sets)) u more .higher
 
   pub next-next : {v : UnitNo} → Has (mapOf l) v → v < nextUnit l u → v ≤ u
   next-next {v} has lt = go (decLt u v)

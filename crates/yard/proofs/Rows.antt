@@ -69,13 +69,6 @@ pub job-tells : Tells J.the-row (Is J.the-row) (λ x. job-val x ∷ [])
 unfolding job-val
 job-tells = LL.tells J.the-type J′.the-laws
 
-pub letter-val : Letter → Val
-letter-val = LL.val L.the-type L′.the-laws
-
-pub letter-tells : Tells L.the-row (Is L.the-row) (λ x. letter-val x ∷ [])
-unfolding letter-val
-letter-tells = LL.tells L.the-type L′.the-laws
-
 pub yard-val : Yard → Val
 yard-val = LL.val Y.the-type Y′.the-laws
 
@@ -89,34 +82,6 @@ step-val = EL.val S.the-type S′.the-laws
 pub step-tells : Tells S.the-row (Is S.the-row) (λ x. step-val x ∷ [])
 unfolding step-val
 step-tells = EL.tells S.the-type S′.the-laws
-
-pub stepped-val : Stepped → Val
-stepped-val = LL.val R.the-type R′.the-laws
-
-pub stepped-tells : Tells R.the-row (Is R.the-row) (λ x. stepped-val x ∷ [])
-unfolding stepped-val
-stepped-tells = LL.tells R.the-type R′.the-laws
-
-pub settled-val : Settled → Val
-settled-val = LL.val D.the-type D′.the-laws
-
-pub settled-tells : Tells D.the-row (Is D.the-row) (λ x. settled-val x ∷ [])
-unfolding settled-val
-settled-tells = LL.tells D.the-type D′.the-laws
-
-pub made-val : Made → Val
-made-val = LL.val F.the-type F′.the-laws
-
-pub made-tells : Tells F.the-row (Is F.the-row) (λ x. made-val x ∷ [])
-unfolding made-val
-made-tells = LL.tells F.the-type F′.the-laws
-
-pub prepared-val : Prepared → Val
-prepared-val = LL.val P.the-type P′.the-laws
-
-pub prepared-tells : Tells P.the-row (Is P.the-row) (λ x. prepared-val x ∷ [])
-unfolding prepared-val
-prepared-tells = LL.tells P.the-type P′.the-laws
 
 -- what a decision is spelled of
 pub record SettledParts (d : Settled) (w : Val) : Type 0 where

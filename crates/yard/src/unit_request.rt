@@ -91,7 +91,8 @@ fn write_on(mem: &mut [u8], epoch: Epoch, p: Position, page: Page) -> Response
 
 fn trim_on(mem: &mut [u8], epoch: Epoch, p: Position) -> Response
     requires { ⌜ goodMemory small (now mem) ≡ true ⌝ }
-    ensures { λ r. ⌜ OnUnit (bare (saying (trimSays small (decode small (now (mem .entry))) (epoch .0) (p .0)))) (trimUnit small (decode small (now (mem .entry))) (epoch .0) (p .0)) r (now (mem .exit)) ⌝ }
+    ensures { λ r. ⌜ OnUnit (bare (saying (trimSays small (decode small (now (mem .entry))) (epoch .0) (p .0))))
+        (trimUnit small (decode small (now (mem .entry))) (epoch .0) (p .0)) r (now (mem .exit)) ⌝ }
 {
     let number = trim(mem, epoch, p);
     bare(saying(number))

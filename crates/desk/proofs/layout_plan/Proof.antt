@@ -1,5 +1,5 @@
 use borrow.Author.Needs.{needs}
-use Rattle.desk.proofs.Telling.{told-new, told-held}
+use Rattle.num.proofs.Telling.{told-new, told-held}
 use Rattle.desk.proofs.Making.{done}
 use Rattle.desk.proofs.layout_plan.Statement.{statement}
 use Rattle.desk.proofs.layout_plan.Tie as tie

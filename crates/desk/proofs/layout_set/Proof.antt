@@ -1,5 +1,6 @@
 use borrow.Author.Needs.{needs}
-use Rattle.desk.proofs.Telling.{told-new, told-held, place-answered, place-found}
+use Rattle.num.proofs.Telling.{told-new, told-held}
+use Rattle.desk.proofs.Telling.{place-answered, place-found}
 use Rattle.desk.proofs.layout_set.Statement.{statement}
 use Rattle.desk.proofs.layout_set.Tie as tie
 

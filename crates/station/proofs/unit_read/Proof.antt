@@ -1,5 +1,5 @@
 use borrow.Author.Needs.{needs}
-use Rattle.station.proofs.Telling.{told-new, told-held}
+use Rattle.num.proofs.Telling.{told-new, told-held}
 use Rattle.station.proofs.unit_read.Statement.{statement}
 use Rattle.station.proofs.unit_read.Tie as tie
 
