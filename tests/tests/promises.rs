@@ -251,6 +251,28 @@ fn every_edit_says_what_it_stands_for() {
 }
 
 #[test]
+fn every_edit_still_applies() {
+    let mut stale = Vec::new();
+    for folder in crates() {
+        for path in edits(&folder) {
+            let (mut file, mut pairs) = (String::new(), 0);
+            for line in read(&path).lines() {
+                if let Some(name) = line.strip_prefix("file: ") {
+                    file = read(&folder.join(name));
+                } else if let Some(old) = line.strip_prefix("old: ") {
+                    pairs += 1;
+                    if file.matches(old).count() != 1 {
+                        stale.push(format!("{}/{}: {old}", name_of(&folder), name_of(&path)));
+                    }
+                }
+            }
+            assert!(pairs > 0, "{}: no text to edit", path.display());
+        }
+    }
+    assert!(stale.is_empty(), "the old text does not stand there once: {stale:#?}");
+}
+
+#[test]
 fn the_reader_of_sources_sees_what_it_should() {
     let text = "impl A {\n    pub fn one(self) -> u8\n        ensures { λ r. ⌜ r ≡ 1 ⌝ }\n    {\n        1\n    }\n}\n\n\
         pub fn two(x: u8)\n    ensures {\n        λ _. ⌜ IsTwo {n = 2}\n          x ⌝\n    }\n    requires { ⌜ x ≡ 0 ⌝ }\n{\n}\n\n\
