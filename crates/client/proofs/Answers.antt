@@ -3,7 +3,7 @@ use mathlib.Core.Path.{_≡_, refl}
 use mathlib.Core.List.{[], _∷_}
 use types.Run.{OneOf, miss}
 use denote.Enum.Declared.{tagOf}
-use Rattle.num.specs.declared.count.Position.{Position}
+use Rattle.num.specs.declared.Position.{Position}
 use Rattle.client.specs.Message.{ifHeld, ifGiven, ifFine, ifShown, ifEdge}
 use Rattle.client.specs.declared.message.Reply.{Reply}
 use Rattle.client.specs.declared.message.Reply.the-variants.{Held, Given, Fine, Shown, Edge, Refused}

@@ -3,9 +3,9 @@ use Prim.Native.Nat.{ℕ, _-_, _^_}
 use mathlib.Core.Bool.{Bool, true, false}
 use mathlib.Core.List.{List}
 use lib.ListN.{replicate}
-use Rattle.num.specs.declared.count.Position.{Position}
-use Rattle.num.specs.declared.count.Request.{Request}
-use Rattle.layout.specs.declared.value.Layout.{Layout}
+use Rattle.num.specs.declared.Position.{Position}
+use Rattle.num.specs.declared.Request.{Request}
+use Rattle.layout.specs.declared.Layout.{Layout}
 use Rattle.layout.specs.Lay.{setsLimit}
 use Rattle.layout.specs.Value.{blank, noChain}
 use Rattle.client.specs.declared.message.Page.{Page}

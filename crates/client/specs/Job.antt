@@ -6,7 +6,7 @@ use lib.Dec.{leb, ltb}
 use lib.ListN.{take}
 use Rattle.num.specs.Limits.{limit}
 use Rattle.num.specs.Checks.{Check, lowest, _if_}
-use Rattle.num.specs.declared.count.Position.{Position}
+use Rattle.num.specs.declared.Position.{Position}
 use Rattle.layout.specs.Value.{padded}
 use Rattle.client.specs.declared.message.Page.{Page}
 use Rattle.client.specs.declared.state.Work.{Work}

@@ -1,8 +1,8 @@
 -- What a client sends and what is handed back to it.
 use Prim.Native.Nat.{ℕ}
 use lib.ListN.{replicate}
-use Rattle.num.specs.declared.count.Position.{Position}
-use Rattle.layout.specs.declared.value.Layout.{Layout}
+use Rattle.num.specs.declared.Position.{Position}
+use Rattle.layout.specs.declared.Layout.{Layout}
 use Rattle.layout.specs.Value.{blank}
 use Rattle.client.specs.declared.message.Page.{Page}
 use Rattle.client.specs.declared.message.Ask.{Ask}

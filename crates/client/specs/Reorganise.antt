@@ -3,7 +3,7 @@ use Prim.Native.Nat.{ℕ}
 use mathlib.Core.Bool.{cond}
 use lib.Dec.{eqb, ltb, leb}
 use Rattle.num.specs.Limits.{limit}
-use Rattle.num.specs.declared.count.Position.{Position}
+use Rattle.num.specs.declared.Position.{Position}
 use Rattle.client.specs.declared.message.Ask.the-variants.{Seal, Start}
 use Rattle.client.specs.declared.message.Reply.{Reply}
 use Rattle.client.specs.declared.state.Stage.the-variants.{Sealing, Offering, Starting}

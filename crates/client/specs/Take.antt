@@ -2,7 +2,7 @@
 use Prim.Native.Nat.{ℕ}
 use mathlib.Core.Bool.{Bool, cond, _&&_}
 use lib.Dec.{eqb}
-use Rattle.layout.specs.declared.value.Layout.{Layout}
+use Rattle.layout.specs.declared.Layout.{Layout}
 use Rattle.layout.specs.Value.{goodValue}
 use Rattle.client.specs.declared.message.Reply.{Reply}
 use Rattle.client.specs.declared.message.Response.{Response}

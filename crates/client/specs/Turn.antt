@@ -2,7 +2,7 @@
 use Prim.Native.Nat.{ℕ, _+_}
 use mathlib.Core.Bool.{cond}
 use lib.Dec.{eqb, leb}
-use Rattle.num.specs.declared.count.Request.{Request}
+use Rattle.num.specs.declared.Request.{Request}
 use Rattle.client.specs.declared.message.Page.{Page}
 use Rattle.client.specs.declared.message.Query.{Query}
 use Rattle.client.specs.declared.state.Client.{Client}

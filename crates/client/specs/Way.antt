@@ -2,8 +2,8 @@
 use Prim.Native.Nat.{ℕ}
 use mathlib.Core.List.{List}
 use lib.ListN.{take}
-use Rattle.num.specs.declared.count.Position.{Position}
-use Rattle.layout.specs.declared.value.Layout.{Layout}
+use Rattle.num.specs.declared.Position.{Position}
+use Rattle.layout.specs.declared.Layout.{Layout}
 use Rattle.layout.specs.declared.plan.Planned.{Planned}
 use Rattle.layout.specs.declared.plan.Started.{Started}
 use Rattle.layout.specs.Value.{layOf}

@@ -14,8 +14,8 @@ use crate::turn::rests;
 use crate::turn::sends;
 use crate::way::after_for;
 use crate::way::head_for;
+use num::Position;
 use num::answer::Answer;
-use num::count::Position;
 
 // Takes the nth token.
 pub(crate) fn draws(c: Client, n: u8) -> Turn

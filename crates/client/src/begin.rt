@@ -14,10 +14,10 @@ use crate::turn::Turn;
 use crate::turn::ends;
 use crate::turn::rests;
 use crate::turn::sends;
-use layout::value::Layout;
+use layout::Layout;
+use num::Request;
 use num::answer::Answer;
 use num::answer::pick;
-use num::count::Request;
 
 // What a begin answers, and what comes of it.
 pub struct Begun {

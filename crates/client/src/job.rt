@@ -8,10 +8,10 @@ use crate::message::Page;
 use crate::state::Change;
 use crate::state::Job;
 use crate::state::Work;
+use num::Position;
 use num::answer::Answer;
 use num::answer::pick;
 use num::bytes::size;
-use num::count::Position;
 
 // A position of 2^40 or more; a prune above it.
 pub(crate) fn is_past(work: Work) -> bool

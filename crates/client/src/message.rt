@@ -1,10 +1,10 @@
 // What a client sends and what is handed back to it. An enum holds no array, so a page and a layout stand beside it.
 ghost use mathlib.Core.Path.{_≡_};
 ghost use Rattle.client.specs.Message.{noPage, noQuery, noResponse, junk, numberOf, plain, bearing, offering};
-use layout::value::Layout;
-use num::count::Epoch;
-use num::count::Position;
-use num::count::Request;
+use layout::Layout;
+use num::Epoch;
+use num::Position;
+use num::Request;
 
 // Data or junk: `len` bytes, and blank past them.
 pub struct Page {

@@ -15,8 +15,8 @@ use crate::turn::sends;
 use crate::way::plan_for;
 use crate::way::start_for;
 use crate::way::unit_above;
+use num::Position;
 use num::answer::Answer;
-use num::count::Position;
 
 // Seals a unit with the held epoch; `edge` is the largest so far.
 pub(crate) fn seals(c: Client, unit: u8, edge: Position) -> Turn

@@ -2,12 +2,12 @@
 ghost use mathlib.Core.Path.{_≡_};
 ghost use Rattle.client.specs.Client.{jobOf, appendOf, reorganiseOf, fresh, idle, noChange, busy, inStage, atPosition, carrying, holding, planning};
 use crate::message::Page;
+use layout::Chain;
+use layout::Layout;
 use layout::plan::Wish;
-use layout::value::Chain;
-use layout::value::Layout;
-use num::count::Epoch;
-use num::count::Position;
-use num::count::Request;
+use num::Epoch;
+use num::Position;
+use num::Request;
 
 // What is asked of a client.
 pub enum Work {

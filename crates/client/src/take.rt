@@ -30,8 +30,8 @@ use crate::turn::otherwise;
 use crate::turn::rests;
 use crate::way::head_for;
 use crate::way::tail_for;
+use layout::Layout;
 use layout::good::is_good;
-use layout::value::Layout;
 use num::answer::Answer;
 
 // The first request after the fetch.

@@ -4,10 +4,10 @@ ghost use Rattle.client.specs.Turn.{noOutcome, outcomeOf, rests, over, e
 use crate::message::Page;
 use crate::message::Query;
 use crate::state::Client;
+use num::Epoch;
+use num::Position;
+use num::Request;
 use num::answer::Answer;
-use num::count::Epoch;
-use num::count::Position;
-use num::count::Request;
 
 pub enum Act {
     Rests,

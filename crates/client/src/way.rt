@@ -5,6 +5,7 @@ ghost use Rattle.layout.specs.Plan.{plannedFor};
 ghost use Rattle.client.specs.Way.{headFor, tailFor, afterFor, unitAbove, planFor, startFor};
 use crate::state::Change;
 use crate::state::Client;
+use layout::Layout;
 use layout::place::head_at;
 use layout::place::next_unit;
 use layout::place::tail_at;
@@ -14,9 +15,8 @@ use layout::plan::Started;
 use layout::plan::Wish;
 use layout::plan::plan;
 use layout::plan::with_start;
-use layout::value::Layout;
+use num::Position;
 use num::bytes::size;
-use num::count::Position;
 
 // The head of the set of the position under way.
 pub(crate) fn head_for(c: Client) -> u8

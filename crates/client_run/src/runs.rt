@@ -9,7 +9,7 @@ use client::begin::restart;
 use client::message::Stamp;
 use client::state::Client;
 use client::take::take;
-use num::count::Request;
+use num::Request;
 use say::line;
 use say::text;
 

@@ -12,13 +12,13 @@ use client::state::Job;
 use client::state::Work;
 use client::take::take;
 use client::turn::Turn;
+use layout::Chain;
+use layout::Layout;
+use layout::Range;
 use layout::plan::Wish;
-use layout::value::Chain;
-use layout::value::Layout;
-use layout::value::Range;
+use num::Epoch;
+use num::Position;
 use num::bytes::wide;
-use num::count::Epoch;
-use num::count::Position;
 use say::line;
 use say::text;
 

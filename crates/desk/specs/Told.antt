@@ -8,7 +8,7 @@ use lib.ListN.{length}
 use lib.Seq.{sets}
 use Rattle.num.specs.Checks.{lowest, _if_}
 use Rattle.num.specs.Told.{told}
-use Rattle.layout.specs.declared.value.Layout.{Layout}
+use Rattle.layout.specs.declared.Layout.{Layout}
 use Rattle.layout.specs.Value.{layOf, valueOf, goodValue}
 use Rattle.layout.specs.Codec.{readAnswer, readLayout, setsSaid, areSets, bytesOf, writeAnswer}
 use Rattle.layout.specs.Places.{placeAnswer, setNumber}

@@ -8,9 +8,9 @@ use layout::place::set_of;
 use layout::read::read_layout;
 use layout::write::write_layout;
 use made::make;
+use num::Position;
 use num::answer::Answer;
 use num::answer::pick;
-use num::count::Position;
 
 #[no_mangle]
 pub extern "C" fn layout_good(bytes: &[u8]) -> u8

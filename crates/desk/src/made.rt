@@ -5,17 +5,17 @@ ghost use Rattle.layout.specs.Codec.{setsSaid, wishSaid};
 ghost use Rattle.layout.specs.Plan.{badDrops};
 ghost use Rattle.desk.specs.Told.{fineSets};
 ghost use Rattle.desk.specs.Made.{namedSets, emptyWish, IsMade};
+use layout::Chain;
+use layout::Layout;
 use layout::new_sets::are_sets;
 use layout::new_sets::sets_name;
 use layout::new_sets::wish_of;
 use layout::plan::Wish;
 use layout::plan::plan;
 use layout::plan::with_start;
-use layout::value::Chain;
-use layout::value::Layout;
+use num::Position;
 use num::answer::Answer;
 use num::answer::pick;
-use num::count::Position;
 
 // The new layout; a blank one where it is refused.
 pub(crate) struct Made {

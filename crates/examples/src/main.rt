@@ -1,46 +1,39 @@
-// Runs the paper's marked examples against the code of a unit and of the layouts, row by row of the table.
-ghost use mathlib.Core.Path.{_≡_};
-ghost use lib.ListN.{length};
-use crate::ask::Row;
-use crate::row::row_at;
-use crate::show::show;
-use crate::tell::tell;
+// The paper's marked examples, then longer runs of the yard: what each row and each step answers and ends is printed, and compared with what is expected.
+use crate::yards::yards;
+use marked::wrong_rows;
 use say::number;
 use say::text;
-use unit::memory::Unit;
+use yard::state::Yard;
 
-mod ask;
-mod lay;
-mod row;
-mod show;
-mod table;
-mod tell;
+mod arrange;
+mod drive;
+mod ends;
+mod failures;
+mod first;
+mod parse;
+mod races;
+mod refusals;
+mod script;
+mod words;
+mod yards;
 
-// Asks every row in turn, and prints it; how many were not answered as expected. It is proved that none is.
-fn run(mem: &mut [u8]) -> u64
-    requires { ⌜ length (now mem) ≡ 6168 ⌝ }
-    ensures { λ r. ⌜ r ≡ 0 ⌝ }
-{
-    let mut wrong: u64 = 0;
-    let mut k: usize = 0;
-    while k < Row::COUNT {
-        let row = row_at(k);
-        let asked = row.asked;
-        let got = tell(mem, asked);
-        wrong += show(row, got);
-        k += 1;
-    }
-    wrong
+// Runs every scene of the yard, and prints how many of its steps were as expected.
+fn yard_runs() {
+    let mut units = [0u8; Yard::SIZE];
+    let ran = yards(&mut units);
+    number(ran.steps);
+    text(b" steps, ");
+    number(if ran.wrong <= ran.steps {
+        ran.steps - ran.wrong
+    } else {
+        0
+    });
+    text(b" as expected, ");
+    number(ran.wrong);
+    text(b" NOT as expected\n");
 }
 
 fn main() {
-    let mut mem = [0u8; Unit::SIZE];
-    let wrong = run(&mut mem);
-    let rows = Row::COUNT as u64;
-    number(rows);
-    text(b" rows, ");
-    number(rows - wrong);
-    text(b" as expected, ");
-    number(wrong);
-    text(b" NOT as expected\n");
+    wrong_rows();
+    yard_runs();
 }

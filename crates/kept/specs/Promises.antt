@@ -2,7 +2,7 @@
 use Prim.Native.Nat.{ℕ}
 use mathlib.Core.List.{List}
 use lib.ListN.{replicate}
-use Rattle.layout.specs.declared.value.Layout.{Layout}
+use Rattle.layout.specs.declared.Layout.{Layout}
 use Rattle.sequencer.specs.Rules as sequencer
 use Rattle.client.specs.declared.state.Job.{Job}
 use Rattle.yard.specs.declared.state.Step.{Step}

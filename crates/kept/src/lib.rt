@@ -1,7 +1,7 @@
 // A yard kept by value but for the memories, so that a program can hold it: its own table and sequencer are lent to each step.
 ghost use Rattle.kept.specs.Promises.{IsKeptStep, IsKeptMade};
 use client::state::Job;
-use layout::value::Layout;
+use layout::Layout;
 use sequencer::Sequencer;
 use yard::fresh::fresh;
 use yard::letter::Letter;

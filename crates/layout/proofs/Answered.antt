@@ -9,7 +9,7 @@ use lib.Dec.{leb, ltb}
 use lib.ListN.{length, getD, take}
 use Rattle.num.specs.Limits.{limit}
 use Rattle.num.proofs.Tests.{and-both, cond-zero}
-use Rattle.layout.specs.declared.value.Layout.{Layout}
+use Rattle.layout.specs.declared.Layout.{Layout}
 use Rattle.layout.specs.Lay.{good, setsLimit}
 use Rattle.layout.specs.Value.{layOf, unitsIn, tidy, goodValue}
 use Rattle.layout.specs.Places.{setNumber, setAt, headOf, placeAnswer, placedAt, unitsAt}

@@ -10,8 +10,8 @@ use lib.ListN.{length, take, set, length-map, length-append}
 use lib.Seq.{sets}
 use Rattle.num.specs.Limits.{lastEpoch}
 use Rattle.num.proofs.Tests.{and-both}
-use Rattle.layout.specs.declared.value.Chain.{Chain}
-use Rattle.layout.specs.declared.value.Layout.{Layout}
+use Rattle.layout.specs.declared.Chain.{Chain}
+use Rattle.layout.specs.declared.Layout.{Layout}
 use Rattle.layout.specs.declared.plan.Wish.{Wish}
 use Rattle.layout.specs.Lay.{Span, Lay, goodSets, setLimit, setsLimit, rangesLimit}
 use Rattle.layout.specs.Value.{padded, noChain, noRange, unitsIn, chainOf, rangeOf, layOf, valueOf}

@@ -9,8 +9,8 @@ use lib.Dec.{leb, eqb}
 use lib.ListN.{length, getD, take, drop, length-map, length-take}
 use Rattle.num.specs.Limits.{lastEpoch}
 use Rattle.num.proofs.Tests.{and-both}
-use Rattle.layout.specs.declared.value.Layout.{Layout}
-use Rattle.layout.specs.declared.value.Range.{Range}
+use Rattle.layout.specs.declared.Layout.{Layout}
+use Rattle.layout.specs.declared.Range.{Range}
 use Rattle.layout.specs.Lay.{good, goodSets, firstAtZero, goodSpans, used}
 use Rattle.layout.specs.Value.{layOf, spanIn, tidy, tidyChains, blankRanges, goodValue}
 use Rattle.layout.proofs.Bools.{and-intro, same-test}

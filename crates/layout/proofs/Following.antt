@@ -9,8 +9,8 @@ use borrow.Author.Tests.{eq-eqb, ne-eqb, lt-leb, ltb-true, ltb-false}
 use lib.Dec.{eqb, leb, ltb, eqb·zero-suc, eqb·suc-suc, leb·zero, leb·suc-suc}
 use lib.ListN.{length, getD, take, drop, drop-of-length-le}
 use lib.Seq.{drop-cons}
-use Rattle.layout.specs.declared.value.Chain.{Chain}
-use Rattle.layout.specs.declared.value.Range.{Range}
+use Rattle.layout.specs.declared.Chain.{Chain}
+use Rattle.layout.specs.declared.Range.{Range}
 use Rattle.layout.specs.Lay.{Span, rangesLimit}
 use Rattle.layout.specs.Value.{unitsIn, spanIn}
 use Rattle.layout.specs.Successor.{sublist, keepsSets, keepsSpans}

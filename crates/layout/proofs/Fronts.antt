@@ -9,7 +9,7 @@ use native.Mathlib.Nat.{not-suc-le-zero}
 use lib.Dec.{eqb}
 use lib.ListN.{length, getD, take, drop, length-take, length-map, drop-of-length-le, List·getD-map, List·getD-eq-default}
 use lib.Seq.{drop-cons, take-nil, getD-take}
-use Rattle.layout.specs.declared.value.Chain.{Chain}
+use Rattle.layout.specs.declared.Chain.{Chain}
 use Rattle.layout.specs.Lay.{_in?_, inSets, setLimit}
 use Rattle.layout.specs.Value.{unitsIn}
 

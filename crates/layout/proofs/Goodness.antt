@@ -7,7 +7,7 @@ use lib.Dec.{leb, eqb}
 use lib.ListN.{length, drop}
 use Rattle.num.specs.Limits.{lastEpoch}
 use Rattle.num.proofs.Tests.{false-true}
-use Rattle.layout.specs.declared.value.Layout.{Layout}
+use Rattle.layout.specs.declared.Layout.{Layout}
 use Rattle.layout.specs.Lay.{Lay, good, goodSets, firstAtZero, goodSpans, used, setsLimit, rangesLimit}
 use Rattle.layout.specs.Value.{tidy, tidyChains, blankRanges}
 

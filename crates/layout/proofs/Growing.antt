@@ -11,7 +11,7 @@ use Rattle.num.specs.Bytes.{leBytes}
 use Rattle.num.proofs.Storing.{sets-append}
 use Rattle.num.proofs.Tests.{left-step}
 use Rattle.layout.specs.declared.encoded.Encoded.{Encoded}
-use Rattle.layout.specs.declared.value.Chain.{Chain}
+use Rattle.layout.specs.declared.Chain.{Chain}
 use Rattle.layout.specs.Lay.{setLimit}
 use Rattle.layout.specs.Value.{unitsIn}
 use Rattle.layout.specs.Codec.{counted}

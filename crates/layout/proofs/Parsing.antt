@@ -13,9 +13,9 @@ use lib.Seq.{sets, getD-drop, drop-drop}
 use Rattle.num.specs.Bytes.{le, numberAt}
 use Rattle.num.proofs.Tests.{left-step}
 use Rattle.num.proofs.Numbers.{Bytes, bytes-drop, le-below}
-use Rattle.layout.specs.declared.value.Chain.{Chain}
-use Rattle.layout.specs.declared.value.Range.{Range}
-use Rattle.layout.specs.declared.value.Layout.{Layout}
+use Rattle.layout.specs.declared.Chain.{Chain}
+use Rattle.layout.specs.declared.Range.{Range}
+use Rattle.layout.specs.declared.Layout.{Layout}
 use Rattle.layout.specs.Value.{padded, noChain, noRange, chainOf, rangeOf, valueOf}
 use Rattle.layout.specs.Codec.{setFront, setsAt, pastSets, spanFront, spansAt, decode}
 use Rattle.layout.proofs.Bools.{same-test}

@@ -9,7 +9,7 @@ use borrow.Author.Tests.{eq-eqb, ne-eqb}
 use lib.Dec.{eqb, leb}
 use lib.ListN.{length, getD, take, drop, length-drop}
 use lib.Seq.{drop-cons}
-use Rattle.layout.specs.declared.value.Range.{Range}
+use Rattle.layout.specs.declared.Range.{Range}
 use Rattle.layout.specs.Lay.{goodSpans}
 use Rattle.layout.specs.Value.{spanIn, noRange}
 use Rattle.layout.specs.Places.{headOf, tailOf, after, placed}

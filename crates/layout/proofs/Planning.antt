@@ -10,8 +10,8 @@ use lib.ListN.{length, take}
 use Rattle.num.specs.Limits.{lastEpoch}
 use Rattle.num.specs.Checks.{lowest}
 use Rattle.num.proofs.Tests.{and-both, or-false, cond-zero}
-use Rattle.layout.specs.declared.value.Chain.{Chain}
-use Rattle.layout.specs.declared.value.Layout.{Layout}
+use Rattle.layout.specs.declared.Chain.{Chain}
+use Rattle.layout.specs.declared.Layout.{Layout}
 use Rattle.layout.specs.declared.plan.Wish.{Wish}
 use Rattle.layout.specs.Lay.{Lay, goodSet, goodSets, setsLimit, rangesLimit}
 use Rattle.layout.specs.Value.{unitsIn, chainOf, layOf, valueOf, blank, tidyChain, goodValue}

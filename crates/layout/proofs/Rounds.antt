@@ -13,7 +13,7 @@ use Rattle.num.specs.Limits.{limit, lastEpoch}
 use Rattle.num.specs.Bytes.{leBytes, numberAt}
 use Rattle.num.proofs.Tests.{and-both, cond-zero}
 use Rattle.num.proofs.Numbers.{le-length, le-put, number-within}
-use Rattle.layout.specs.declared.value.Layout.{Layout}
+use Rattle.layout.specs.declared.Layout.{Layout}
 use Rattle.layout.specs.Lay.{Span, Lay, good, goodSets, goodSpans, inSets, usedFrom, unitsOf}
 use Rattle.layout.specs.Value.{padded, layOf, goodValue}
 use Rattle.layout.specs.Codec.{counted, setsBytes, spanBytes, spansBytes, encode, setsAt, pastSets, spanFront, spansAt, decode, same, isLayout, readAnswer, readLayout, setsSaid, areSets, bytesOf}

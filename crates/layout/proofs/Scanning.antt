@@ -10,7 +10,7 @@ use borrow.Author.Tests.{leb-true, ltb-true, eqb-true, eq-eqb}
 use lib.Dec.{leb, ltb, eqb}
 use lib.ListN.{length, getD, drop, length-append}
 use Rattle.num.proofs.Tests.{and-both, false-true, left-step}
-use Rattle.layout.specs.declared.value.Chain.{Chain}
+use Rattle.layout.specs.declared.Chain.{Chain}
 use Rattle.layout.specs.Lay.{_in?_, inSets, rising, goodSet, goodSets, unitLimit}
 use Rattle.layout.specs.declared.plan.Wish.{Wish}
 use Rattle.layout.specs.Value.{padded, noChain, unitsIn, chainOf, tidyChain}

@@ -7,8 +7,8 @@ use native.Mathlib.Nat.{add-assoc}
 use native.Mathlib.Numerals.{add-one}
 use native.Mathlib.Omega.{arith}
 use lib.ListN.{length, getD, take, drop}
-use Rattle.layout.specs.declared.value.Chain.{Chain}
-use Rattle.layout.specs.declared.value.Range.{Range}
+use Rattle.layout.specs.declared.Chain.{Chain}
+use Rattle.layout.specs.declared.Range.{Range}
 use Rattle.layout.specs.declared.encoded.Encoded.{Encoded}
 use Rattle.layout.specs.Lay.{inSets, usedFrom, unitsOf}
 use Rattle.layout.specs.Value.{unitsIn, spanIn}

@@ -9,7 +9,7 @@ use lib.Dec.{leb, ltb, eqb}
 use lib.ListN.{length}
 use Rattle.num.specs.Limits.{limit}
 use Rattle.num.proofs.Tests.{and-both}
-use Rattle.layout.specs.declared.value.Layout.{Layout}
+use Rattle.layout.specs.declared.Layout.{Layout}
 use Rattle.layout.specs.Lay.{Span}
 use Rattle.layout.specs.Value.{layOf, blank}
 use Rattle.layout.specs.Plan.{startAt, isOpen, openStart, startSet, settleAnswer, settled, settledFirst, startedAt}

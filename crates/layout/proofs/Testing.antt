@@ -9,7 +9,7 @@ use lib.Dec.{eqb, ltb, leb}
 use lib.ListN.{length, getD, take, drop}
 use Rattle.layout.specs.Lay.{rising, goodSet}
 use Rattle.layout.specs.Value.{zeros, tidyChain, unitsIn}
-use Rattle.layout.specs.declared.value.Chain.{Chain}
+use Rattle.layout.specs.declared.Chain.{Chain}
 use Rattle.layout.proofs.Bools.{either}
 
 -- ---- a chain

@@ -8,7 +8,7 @@ use native.Mathlib.Numerals.{add-one}
 use lib.ListN.{length, getD, take, drop, set, replicate, length-take, drop-of-length-le}
 use lib.Seq.{sets, drop-cons, getD-take}
 use lib.Dec.{eqb, leb}
-use Rattle.layout.specs.declared.value.Chain.{Chain}
+use Rattle.layout.specs.declared.Chain.{Chain}
 use Rattle.layout.specs.Lay.{_in?_, inSets, goodSet, setLimit, unitLimit}
 use Rattle.layout.specs.Value.{padded, chainOf, unitsIn, tidyChain}
 use Rattle.layout.specs.Plan.{without, emptied, badDrops, goodChains}

@@ -9,9 +9,9 @@ use borrow.Author.Tests.{leb-true, eqb-true}
 use lib.Dec.{leb, eqb}
 use lib.ListN.{length, take, drop, replicate, length-take}
 use Rattle.num.proofs.Tests.{and-both}
-use Rattle.layout.specs.declared.value.Chain.{Chain}
-use Rattle.layout.specs.declared.value.Range.{Range}
-use Rattle.layout.specs.declared.value.Layout.{Layout}
+use Rattle.layout.specs.declared.Chain.{Chain}
+use Rattle.layout.specs.declared.Range.{Range}
+use Rattle.layout.specs.declared.Layout.{Layout}
 use Rattle.layout.specs.Lay.{Span, Lay, rising, goodSet, goodSets, good}
 use Rattle.layout.specs.Value.{padded, noChain, noRange, unitsIn, spanIn, layOf, chainOf, rangeOf, valueOf, zeros, tidyChain, tidyChains, blankRanges, tidy, goodValue}
 use Rattle.layout.proofs.Bools.{and-intro, same-test}

@@ -11,8 +11,8 @@ use lib.Dec.{eqb, ltb, leb, leb·zero}
 use lib.ListN.{length, getD, take, drop, drop-of-length-le}
 use lib.Seq.{drop-cons}
 use Rattle.num.specs.Limits.{limit}
-use Rattle.layout.specs.declared.value.Chain.{Chain}
-use Rattle.layout.specs.declared.value.Range.{Range}
+use Rattle.layout.specs.declared.Chain.{Chain}
+use Rattle.layout.specs.declared.Range.{Range}
 use Rattle.layout.specs.Lay.{goodSet, goodSets, goodSpans, used}
 use Rattle.layout.specs.Value.{unitsIn, spanIn, tidyChain, tidyChains, blankRanges}
 use Rattle.layout.proofs.Bools.{and-swap}

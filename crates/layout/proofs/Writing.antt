@@ -10,7 +10,7 @@ use lib.Dec.{leb, ltb}
 use lib.ListN.{length, take}
 use lib.Seq.{sets}
 use Rattle.num.proofs.Tests.{or-false}
-use Rattle.layout.specs.declared.value.Layout.{Layout}
+use Rattle.layout.specs.declared.Layout.{Layout}
 use Rattle.layout.specs.declared.encoded.Encoded.{Encoded}
 use Rattle.layout.specs.Lay.{good}
 use Rattle.layout.specs.Value.{layOf, valueOf, blank, goodValue}

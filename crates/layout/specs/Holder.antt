@@ -4,7 +4,7 @@ use mathlib.Core.Bool.{_&&_, not, cond}
 use mathlib.Core.List.{List, [], _∷_}
 use lib.Dec.{eqb}
 use Rattle.num.specs.Checks.{Check, lowest, _if_}
-use Rattle.layout.specs.declared.value.Layout.{Layout}
+use Rattle.layout.specs.declared.Layout.{Layout}
 use Rattle.layout.specs.declared.holder.Offered.{Offered}
 use Rattle.layout.specs.declared.holder.Fetched.{Fetched}
 use Rattle.layout.specs.Value.{layOf, goodValue, blank}

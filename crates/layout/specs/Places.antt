@@ -6,7 +6,7 @@ use lib.Dec.{eqb, ltb, leb}
 use lib.ListN.{getD}
 use Rattle.num.specs.Limits.{limit}
 use Rattle.num.specs.Checks.{lowest, _if_}
-use Rattle.layout.specs.declared.value.Layout.{Layout}
+use Rattle.layout.specs.declared.Layout.{Layout}
 use Rattle.layout.specs.declared.place.Placed.{Placed}
 use Rattle.layout.specs.Lay.{Span, Lay, unitsOf}
 use Rattle.layout.specs.Value.{layOf, goodValue}

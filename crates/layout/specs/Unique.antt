@@ -4,7 +4,7 @@ use mathlib.Core.Bool.{Bool}
 use mathlib.Core.List.{List}
 use mathlib.Core.Path.{_≡_}
 use Rattle.num.specs.Unique.{once}
-use Rattle.layout.specs.declared.value.Layout.{Layout}
+use Rattle.layout.specs.declared.Layout.{Layout}
 use Rattle.layout.specs.Value.{blank, goodValue, layOf}
 use Rattle.layout.specs.Codec.{LayoutRead, LayoutWritten, areSets, setsName, wishSaid}
 use Rattle.layout.specs.declared.place.Placed.{Placed}

@@ -9,11 +9,11 @@ ghost use Rattle.layout.specs.Lay.{unitsOf};
 ghost use Rattle.layout.specs.Value.{layOf, unitsIn, spanIn};
 ghost use Rattle.layout.specs.Codec.{counted, setsBytes, spanBytes, spansBytes, bytesOf};
 ghost use Rattle.layout.specs.Growing.{grown, nothing};
+use crate::Chain;
+use crate::Layout;
+use crate::Range;
 use crate::place::clip;
 use crate::place::in_sets;
-use crate::value::Chain;
-use crate::value::Layout;
-use crate::value::Range;
 use num::answer::pick;
 
 pub struct Encoded {

@@ -6,12 +6,12 @@ ghost use lib.ListN.{drop};
 ghost use Rattle.num.specs.Limits.{limit};
 ghost use Rattle.layout.specs.Lay.{goodSet, goodSets, goodSpans, used, unitLimit};
 ghost use Rattle.layout.specs.Value.{layOf, unitsIn, tidyChain, tidyChains, blankRanges, goodValue};
-use crate::value::Chain;
-use crate::value::Layout;
-use crate::value::Range;
+use crate::Chain;
+use crate::Layout;
+use crate::Range;
+use num::Position;
 use num::answer::pick;
 use num::bytes::size;
-use num::count::Position;
 
 // A unit that is used is above `low` and at most the last; one that is not is 0.
 fn good_unit(used: bool, low: u8, unit: u8) -> bool

@@ -3,12 +3,12 @@ ghost use mathlib.Core.Path.{_≡_};
 ghost use Prim.Native.Nat.{_+_};
 ghost use lib.Dec.{eqb};
 ghost use Rattle.layout.specs.Holder.{offerAnswer, offeredTo, fetchedFrom};
+use crate::Layout;
 use crate::good::is_good;
 use crate::successor::lawful;
-use crate::value::Layout;
+use num::Epoch;
 use num::answer::Answer;
 use num::answer::pick;
-use num::count::Epoch;
 
 pub struct Offered {
     pub answer: u8,

@@ -1,4 +1,9 @@
 // Layouts: which units hold which positions, as values and as bytes, and how one layout may follow another.
+ghost use mathlib.Core.Path.{_≡_};
+ghost use Rattle.layout.specs.Value.{blank};
+use num::Epoch;
+use num::Position;
+
 pub mod encoded;
 pub mod good;
 pub mod holder;
@@ -7,5 +12,59 @@ pub mod place;
 pub mod plan;
 pub mod read;
 pub mod successor;
-pub mod value;
 pub mod write;
+
+// A set of units, rising: the first is the head, the last the tail.
+pub struct Chain {
+    pub count: u8,
+    pub units: [u8; 4],
+}
+
+// From `start` on, positions go in turn to the next `sets` sets.
+pub struct Range {
+    pub start: Position,
+    pub sets: u8,
+}
+
+// Entries past a count are blank, so that equal layouts are equal values.
+pub struct Layout {
+    pub epoch: Epoch,
+    pub set_count: u8,
+    pub sets: [Chain; 16],
+    pub range_count: u8,
+    pub ranges: [Range; 8],
+}
+
+impl Chain {
+    pub const UNITS: usize = 4;
+}
+
+impl Layout {
+    pub const UNITS: usize = 8;
+
+    pub const SETS: usize = 16;
+
+    pub const RANGES: usize = 8;
+
+    // The bytes of the largest layout: 4, 1 + 8, 1 + 16 * 5, 1 + 8 * 9.
+    pub const SIZE: usize = 167;
+
+    // No layout: what stands where none is given.
+    pub fn blank() -> Layout
+        ensures { λ r. ⌜ r ≡ blank ⌝ }
+    {
+        Layout {
+            epoch: Epoch(0),
+            set_count: 0,
+            sets: [Chain {
+                count: 0,
+                units: [0u8; 4],
+            }; 16],
+            range_count: 0,
+            ranges: [Range {
+                start: Position(0),
+                sets: 0,
+            }; 8],
+        }
+    }
+}

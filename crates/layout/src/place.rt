@@ -7,14 +7,14 @@ ghost use lib.ListN.{length, take};
 ghost use Rattle.layout.specs.Lay.{good, _in?_, inSets};
 ghost use Rattle.layout.specs.Value.{layOf, unitsIn};
 ghost use Rattle.layout.specs.Places.{setNumber, placeAnswer, placedAt, unitsAt, headOf, tailOf, after, nextUnit};
+use crate::Chain;
+use crate::Layout;
 use crate::good::is_good;
-use crate::value::Chain;
-use crate::value::Layout;
+use num::Position;
 use num::answer::Answer;
 use num::answer::pick;
 use num::bytes::size;
 use num::bytes::wide;
-use num::count::Position;
 
 // The number of a position's set, counted from 0.
 pub struct Placed {

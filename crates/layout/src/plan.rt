@@ -9,6 +9,9 @@ ghost use lib.Seq.{sets as stored};
 ghost use Rattle.layout.specs.Lay.{setsLimit, rangesLimit};
 ghost use Rattle.layout.specs.Value.{layOf, valueOf, unitsIn};
 ghost use Rattle.layout.specs.Plan.{thinned, badDrops, emptied, goodWish, newOf, newRanges, reorganiseAnswer, planned, plannedFor, isOpen, startSet, startedAt};
+use crate::Chain;
+use crate::Layout;
+use crate::Range;
 use crate::good::good_chain;
 use crate::good::is_good;
 use crate::place::among;
@@ -17,14 +20,11 @@ use crate::place::in_sets;
 use crate::place::range_total;
 use crate::place::set_total;
 use crate::successor::start_at;
-use crate::value::Chain;
-use crate::value::Layout;
-use crate::value::Range;
+use num::Epoch;
+use num::Position;
 use num::answer::Answer;
 use num::answer::pick;
 use num::bytes::size;
-use num::count::Epoch;
-use num::count::Position;
 
 // The new sets that are wanted: the first `count`. Those past the count are not looked at; for more than 16 there is no room.
 pub struct Wish {

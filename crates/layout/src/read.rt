@@ -6,18 +6,18 @@ ghost use Prim.Native.Nat.{_+_, _*_, _≤_};
 ghost use lib.ListN.{getD, take, drop, set};
 ghost use Rattle.layout.specs.Value.{padded, noChain, noRange, chainOf, rangeOf, valueOf, blank};
 ghost use Rattle.layout.specs.Codec.{setFront, spanFront, setsAt, pastSets, spansAt, decode, same, LayoutRead};
+use crate::Chain;
+use crate::Layout;
+use crate::Range;
 use crate::encoded::Encoded;
 use crate::encoded::bytes_of;
 use crate::good::is_good;
-use crate::value::Chain;
-use crate::value::Layout;
-use crate::value::Range;
+use num::Epoch;
+use num::Position;
 use num::answer::Answer;
 use num::answer::pick;
 use num::bytes::number_at;
 use num::bytes::size;
-use num::count::Epoch;
-use num::count::Position;
 
 // The byte at `at`; 0 past the end.
 pub(crate) fn byte_at(b: &[u8], at: usize) -> u8

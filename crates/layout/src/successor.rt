@@ -5,11 +5,11 @@ ghost use lib.Dec.{leb};
 ghost use lib.ListN.{length, getD};
 ghost use Rattle.layout.specs.Value.{layOf, unitsIn};
 ghost use Rattle.layout.specs.Successor.{sublist, keepsSets, keepsSpans, lawful};
+use crate::Chain;
+use crate::Layout;
 use crate::place::clip;
 use crate::place::range_total;
 use crate::place::set_total;
-use crate::value::Chain;
-use crate::value::Layout;
 
 // Whether `new` is a sublist of `old`: `i` of its units are found among those of `old` that were passed.
 fn sublist(new: &[u8], old: &[u8]) -> bool

@@ -5,10 +5,10 @@ ghost use Prim.Native.Nat.{_≤_};
 ghost use lib.ListN.{length, take};
 ghost use lib.Seq.{sets};
 ghost use Rattle.layout.specs.Codec.{LayoutWritten};
+use crate::Layout;
 use crate::encoded::Encoded;
 use crate::encoded::bytes_of;
 use crate::good::is_good;
-use crate::value::Layout;
 use num::answer::Answer;
 use num::answer::pick;
 

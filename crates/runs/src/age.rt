@@ -2,9 +2,9 @@
 use crate::draw::of;
 use client::state::Client;
 use kept::Kept;
-use num::count::Epoch;
-use num::count::Position;
-use num::count::Request;
+use num::Epoch;
+use num::Position;
+use num::Request;
 use sequencer::start_step;
 
 // Clients near their last life and their last request number.

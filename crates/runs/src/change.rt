@@ -6,8 +6,8 @@ use crate::sets::drawn_sets;
 use crate::sets::no_set;
 use crate::sets::odd_set;
 use client::state::Change;
+use layout::Chain;
 use layout::plan::Wish;
-use layout::value::Chain;
 
 // Units to drop, the first `count`.
 struct Drops {

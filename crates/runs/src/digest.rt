@@ -2,9 +2,9 @@
 ghost use Prim.Native.Nat.{_<_};
 use crate::text::smaller;
 use client::message::Page;
-use layout::value::Chain;
-use layout::value::Layout;
-use layout::value::Range;
+use layout::Chain;
+use layout::Layout;
+use layout::Range;
 use num::bytes::size;
 use num::bytes::wide;
 

@@ -6,8 +6,8 @@ use crate::draw::smaller;
 use crate::seen::Seen;
 use client::state::Job;
 use client::state::Work;
+use num::Position;
 use num::answer::Answer;
-use num::count::Position;
 
 // The kinds of operation.
 enum Kind {

@@ -12,11 +12,11 @@ use client::state::Change;
 use client::state::Job;
 use client::state::Work;
 use client::turn::Outcome;
-use layout::value::Chain;
-use layout::value::Layout;
-use layout::value::Range;
+use layout::Chain;
+use layout::Layout;
+use layout::Range;
+use num::Position;
 use num::bytes::size;
-use num::count::Position;
 use yard::state::Step;
 
 fn set(line: &mut [u8], at: usize, c: Chain) -> usize {

@@ -2,7 +2,7 @@
 ghost use Prim.Native.Nat.{_+_, _<_, _≤_};
 use crate::draw::of;
 use crate::draw::smaller;
-use layout::value::Chain;
+use layout::Chain;
 
 // How many units a set shall have.
 fn wanted(n: u64) -> u64

@@ -3,11 +3,11 @@ ghost use Prim.Native.Nat.{_≤_};
 use crate::draw::bit;
 use crate::draw::of;
 use crate::sets::drawn_sets;
-use layout::value::Chain;
-use layout::value::Layout;
-use layout::value::Range;
-use num::count::Epoch;
-use num::count::Position;
+use layout::Chain;
+use layout::Layout;
+use layout::Range;
+use num::Epoch;
+use num::Position;
 
 // How often, of 64, a letter is kept and an answer lost; whether the log's last positions are asked for, whether appends
 // prevail, and whether units stop.

@@ -6,8 +6,8 @@ use mathlib.Core.Path.{_≡_, refl, sym}
 use native.Mathlib.Omega.{arith}
 use lib.Dec.{eqb, leb, ltb}
 use borrow.Author.Tests.{eq-eqb, ne-eqb, eqb-true, lt-leb, le-ltb, leb-false, ltb-false}
-use Rattle.num.specs.declared.count.Epoch.{Epoch}
-use Rattle.num.specs.declared.count.Position.{Position}
+use Rattle.num.specs.declared.Epoch.{Epoch}
+use Rattle.num.specs.declared.Position.{Position}
 use Rattle.num.specs.Limits.{limit}
 use Rattle.num.proofs.Tests.{cond-zero}
 use Rattle.sequencer.specs.Rules.{numberOf, positionOf, number, gives, becomes, position, after, Served, tellsOf, told}

@@ -32,10 +32,10 @@ use denote.Triple.Spec.{Meets, tripleOf}
 use denote.Triple.Clauses.{Ended, Clauses, closing, ensured, lasts as lasts-of}
 use denote.Triple.Table.{entered, cited}
 use denote.Triple.Walked.{says, Stays, stay-ref, hasOf, walkOf, goes-ref, Walks, ends-at, walked, walk-meets}
-use Rattle.num.proofs.count.Epoch as E
-use Rattle.num.proofs.count.Epoch.Laws as E′
-use Rattle.num.proofs.count.Position as P
-use Rattle.num.proofs.count.Position.Laws as P′
+use Rattle.num.proofs.Epoch as E
+use Rattle.num.proofs.Epoch.Laws as E′
+use Rattle.num.proofs.Position as P
+use Rattle.num.proofs.Position.Laws as P′
 use Rattle.sequencer.specs.Rules.{Served}
 use Rattle.sequencer.specs.declared.Asked.{Asked}
 use Rattle.sequencer.specs.declared.Sequencer.{Sequencer}

@@ -5,7 +5,7 @@ use mathlib.Core.List.{List, [], _∷_}
 use mathlib.Core.Option.{Option, none, some}
 use mathlib.Core.Path.{_≡_}
 use lib.Dec.{eqb, leb, ltb}
-use Rattle.num.specs.declared.count.Position.{Position}
+use Rattle.num.specs.declared.Position.{Position}
 use Rattle.num.specs.Limits.{limit}
 use Rattle.num.specs.Checks.{Check, _if_, lowest}
 use Rattle.sequencer.specs.declared.Sequencer.{Sequencer}

@@ -1,10 +1,10 @@
 // The sequencer: one small counter, epoch and next position, stepped where it stands.
 ghost use mathlib.Core.Path.{_≡_};
 ghost use Rattle.sequencer.specs.Rules.{fresh, numberOf, Served};
+use num::Epoch;
+use num::Position;
 use num::answer;
 use num::answer::Answer;
-use num::count::Epoch;
-use num::count::Position;
 
 pub struct Sequencer {
     pub epoch: Epoch,

@@ -1,8 +1,8 @@
 // The unit for a station's own C program: numbers and byte slices. A slice is a pointer and then a length.
 ghost use Rattle.unit.specs.Promises.{IsFresh, IsWritten, IsTrimmed, IsPruned};
 ghost use Rattle.station.specs.Told.{IsTold, IsSealTold};
-use num::count::Epoch;
-use num::count::Position;
+use num::Epoch;
+use num::Position;
 use unit::fresh::fresh;
 use unit::prune::prune;
 use unit::read::read;

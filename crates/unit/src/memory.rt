@@ -6,8 +6,8 @@ ghost use Rattle.unit.specs.Shape.{small};
 ghost use Rattle.unit.specs.Memory.{goodFields, goodSlot, goodSlots, goodHeader, good as goodMemory};
 use crate::field::number_at;
 use crate::field::zeros_at;
+use num::Position;
 use num::bytes::size;
-use num::count::Position;
 
 pub struct Unit;
 

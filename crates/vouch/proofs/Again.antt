@@ -6,8 +6,8 @@ use mathlib.Core.List.{List, [], _∷_}
 use Prim.Native.Nat.{ℕ, _<_}
 use lib.ListN.{length}
 use Rattle.num.specs.Limits.{limit}
-use Rattle.num.specs.declared.count.Position.{Position}
-use Rattle.layout.specs.declared.value.Layout.{Layout}
+use Rattle.num.specs.declared.Position.{Position}
+use Rattle.layout.specs.declared.Layout.{Layout}
 use Rattle.layout.specs.Value.{blank}
 use Rattle.client.specs.declared.message.Ask.{Ask}
 use Rattle.client.specs.declared.message.Ask.the-variants as ask

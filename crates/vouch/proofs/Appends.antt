@@ -8,7 +8,7 @@ use lib.Dec.{eqb, ltb}
 use borrow.Author.Tests.{eqb-true, eqb-false, ltb-true}
 use Rattle.num.specs.Limits.{limit}
 use Rattle.num.proofs.Tests.{false-true}
-use Rattle.num.specs.declared.count.Position.{Position}
+use Rattle.num.specs.declared.Position.{Position}
 use Rattle.layout.specs.Value.{layOf, goodValue}
 use Rattle.layout.specs.Places.{setAt, headOf, tailOf, after}
 use Rattle.client.specs.declared.message.Reply.{Reply}

@@ -11,7 +11,7 @@ use borrow.Author.Tests.{eqb-true, leb-false, le-leb, not-false}
 use Rattle.num.specs.Limits.{limit}
 use Rattle.num.specs.Checks.{Check, lowest}
 use Rattle.num.proofs.Tests.{cond-zero}
-use Rattle.layout.specs.declared.value.Layout.{Layout}
+use Rattle.layout.specs.declared.Layout.{Layout}
 use Rattle.layout.specs.Value.{padded}
 use Rattle.client.specs.declared.message.Ask.the-variants as ask
 use Rattle.client.specs.declared.state.Work.{Work}

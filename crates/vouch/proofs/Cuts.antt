@@ -7,7 +7,7 @@ use native.Mathlib.Omega.{arith}
 use native.Mathlib.Decide.{decLt}
 use lib.Dec.{eqb}
 use borrow.Author.Tests.{eqb-false}
-use Rattle.num.specs.declared.count.Position.{Position}
+use Rattle.num.specs.declared.Position.{Position}
 use Rattle.layout.specs.Value.{layOf}
 use Rattle.layout.specs.Places.{setAt, after, nextUnit}
 use Rattle.client.specs.declared.message.Page.{Page as PageValue}

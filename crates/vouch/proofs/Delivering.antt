@@ -9,7 +9,7 @@ use lib.Dec.{eqb}
 use lib.ListN.{length}
 use borrow.Author.Tests.{eqb-true}
 use Rattle.num.proofs.Tests.{and-both, or-false}
-use Rattle.layout.specs.declared.value.Layout.{Layout}
+use Rattle.layout.specs.declared.Layout.{Layout}
 use Rattle.client.specs.declared.message.Ask.{Ask}
 use Rattle.client.specs.declared.message.Reply.{Reply}
 use Rattle.client.specs.declared.message.Stamp.{Stamp}

@@ -6,9 +6,9 @@ use Prim.Native.Nat.{ℕ, _-_}
 use native.Mathlib.Omega.{arith}
 use lib.ListN.{getD}
 use Rattle.num.proofs.Tests.{or-false}
-use Rattle.num.specs.declared.count.Epoch.{Epoch as EpochValue}
-use Rattle.num.specs.declared.count.Position.{Position}
-use Rattle.layout.specs.declared.value.Layout.{Layout}
+use Rattle.num.specs.declared.Epoch.{Epoch as EpochValue}
+use Rattle.num.specs.declared.Position.{Position}
+use Rattle.layout.specs.declared.Layout.{Layout}
 use Rattle.layout.specs.Value.{goodValue}
 use Rattle.client.specs.declared.message.Ask.{Ask}
 use Rattle.client.specs.declared.message.Ask.the-variants as ask

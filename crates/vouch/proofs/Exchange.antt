@@ -10,7 +10,7 @@ use lib.Dec.{leb}
 use lib.ListN.{length, length-append, set}
 use lib.Seq.{getD-append-seam, getD-set-same, set-set}
 use Rattle.num.proofs.Tests.{and-both, neither}
-use Rattle.layout.specs.declared.value.Layout.{Layout}
+use Rattle.layout.specs.declared.Layout.{Layout}
 use Rattle.unit.specs.State.{State}
 use Rattle.sequencer.specs.declared.Sequencer.{Sequencer}
 use Rattle.client.specs.declared.message.Query.{Query}

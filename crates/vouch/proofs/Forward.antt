@@ -11,9 +11,9 @@ use lib.Dec.{leb, ltb}
 use lib.ListN.{length, getD, set, length-set}
 use lib.Seq.{getD-set-same, getD-set-other}
 use Rattle.num.specs.Limits.{limit, lastEpoch}
-use Rattle.num.specs.declared.count.Epoch.{Epoch}
-use Rattle.num.specs.declared.count.Position.{Position}
-use Rattle.layout.specs.declared.value.Layout.{Layout}
+use Rattle.num.specs.declared.Epoch.{Epoch}
+use Rattle.num.specs.declared.Position.{Position}
+use Rattle.layout.specs.declared.Layout.{Layout}
 use Rattle.layout.specs.Lay.{Lay, _in?_, rising, unitsOf, goodSets}
 use Rattle.layout.specs.Value.{layOf, valueOf, goodValue}
 use Rattle.layout.specs.Places.{above}

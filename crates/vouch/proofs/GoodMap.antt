@@ -8,7 +8,7 @@ use mathlib.Core.Logic.{⊎-elim}
 use Prim.Native.Nat.{ℕ, _≤_}
 use native.Mathlib.Omega.{arith}
 use Rattle.num.specs.Limits.{lastEpoch}
-use Rattle.layout.specs.declared.value.Layout.{Layout}
+use Rattle.layout.specs.declared.Layout.{Layout}
 use Rattle.layout.specs.Lay.{Lay, rising, good, _in?_, unitsOf}
 use Rattle.layout.specs.Value.{layOf}
 use Rattle.layout.specs.Places.{setAt}

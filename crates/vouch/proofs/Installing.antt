@@ -8,9 +8,9 @@ use native.Mathlib.Omega.{arith}
 use lib.Dec.{eqb}
 use lib.ListN.{length}
 use Rattle.num.specs.Limits.{limit}
-use Rattle.num.specs.declared.count.Position.{Position}
-use Rattle.num.specs.declared.count.Request.{Request}
-use Rattle.layout.specs.declared.value.Layout.{Layout}
+use Rattle.num.specs.declared.Position.{Position}
+use Rattle.num.specs.declared.Request.{Request}
+use Rattle.layout.specs.declared.Layout.{Layout}
 use Rattle.layout.specs.declared.plan.Started.{Started}
 use Rattle.layout.specs.declared.holder.Offered.{Offered}
 use Rattle.layout.specs.Plan.{startedAt}

@@ -10,10 +10,10 @@ use lib.Dec.{eqb, leb}
 use lib.ListN.{length, length-set, length-append}
 use lib.Seq.{getD-set-same}
 use Rattle.num.specs.Limits.{limit}
-use Rattle.num.specs.declared.count.Position.{Position}
+use Rattle.num.specs.declared.Position.{Position}
 use Rattle.num.proofs.Tests.{and-both}
 use Rattle.layout.specs.declared.plan.Planned.{Planned}
-use Rattle.layout.specs.declared.value.Layout.{Layout}
+use Rattle.layout.specs.declared.Layout.{Layout}
 use Rattle.layout.specs.Lay.{Lay, good, _in?_}
 use Rattle.layout.specs.Value.{layOf, valueOf}
 use Rattle.layout.specs.Places.{setAt, tailOf}

@@ -2,7 +2,7 @@
 -- Rests on Meaning, Moments and Edges.
 use Prim.Native.Nat.{_≤_}
 use native.Mathlib.Omega.{arith}
-use Rattle.layout.specs.declared.value.Layout.{Layout}
+use Rattle.layout.specs.declared.Layout.{Layout}
 use Rattle.client.specs.declared.message.Page.{Page as PageValue}
 use Rattle.client.specs.declared.message.Ask.{Ask}
 use Rattle.client.specs.declared.message.Response.{Response}
@@ -11,7 +11,7 @@ use Rattle.client.specs.declared.state.Work.the-variants as work
 use Rattle.client.specs.declared.state.Stage.{Stage}
 use Rattle.client.specs.declared.state.Stage.the-variants.{Idle, Fetching, Drawing, Writing, Reading, Filling, Looking, Trimming, Pruning, Sealing, Offering, Starting}
 use Rattle.client.specs.declared.state.Client.{Client}
-use Rattle.num.specs.declared.count.Position.{Position}
+use Rattle.num.specs.declared.Position.{Position}
 use Rattle.vouch.specs.Words.{UnitNo, Pos, Epoch, Answer}
 use Rattle.vouch.specs.History.{History, _⊑_, Mark, held}
 use Rattle.vouch.specs.History._⊑_.{here, later}

@@ -9,7 +9,7 @@ use lib.Dec.{eqb}
 use lib.ListN.{length, take, drop, getD, replicate, length-append, length-drop, length-replicate}
 use borrow.Author.Tests.{eqb-true, eq-eqb, le-ltb}
 use Rattle.num.proofs.Tests.{and-both}
-use Rattle.layout.specs.declared.value.Layout.{Layout}
+use Rattle.layout.specs.declared.Layout.{Layout}
 use Rattle.layout.specs.Value.{goodValue}
 use Rattle.unit.specs.Shape.{small, memorySize}
 use Rattle.unit.specs.State.{State}

@@ -8,9 +8,9 @@ use lib.Dec.{eqb, leb}
 use lib.ListN.{length, length-set, getD}
 use borrow.Author.Tests.{leb-true}
 use Rattle.num.proofs.Tests.{false-true, and-both}
-use Rattle.num.specs.declared.count.Epoch.{Epoch as EpochValue}
-use Rattle.num.specs.declared.count.Position.{Position}
-use Rattle.layout.specs.declared.value.Layout.{Layout}
+use Rattle.num.specs.declared.Epoch.{Epoch as EpochValue}
+use Rattle.num.specs.declared.Position.{Position}
+use Rattle.layout.specs.declared.Layout.{Layout}
 use Rattle.layout.specs.Value.{layOf, goodValue}
 use Rattle.layout.specs.Holder.{offeredTo}
 use Rattle.unit.specs.Shape.{small}

@@ -4,9 +4,9 @@ use mathlib.Core.Path.{_≡_}
 use mathlib.Core.Bool.{true}
 use Prim.Native.Nat.{ℕ, _≤_, _<_}
 use Rattle.num.specs.Limits.{limit, lastEpoch}
-use Rattle.num.specs.declared.count.Epoch.{Epoch as EpochValue}
-use Rattle.num.specs.declared.count.Position.{Position}
-use Rattle.layout.specs.declared.value.Layout.{Layout}
+use Rattle.num.specs.declared.Epoch.{Epoch as EpochValue}
+use Rattle.num.specs.declared.Position.{Position}
+use Rattle.layout.specs.declared.Layout.{Layout}
 use Rattle.layout.specs.Value.{layOf, goodValue, blank}
 use Rattle.layout.specs.Places.{setAt}
 use Rattle.client.specs.declared.message.Page.{Page as PageValue}

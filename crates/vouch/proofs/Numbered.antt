@@ -10,7 +10,7 @@ use lib.ListN.{length, getD, set, length-set, length-append}
 use borrow.Author.Tests.{eqb-true, leb-false, ltb-false}
 use Rattle.num.specs.Checks.{Check, lowest}
 use Rattle.num.proofs.Tests.{cond-zero, or-false}
-use Rattle.layout.specs.declared.value.Layout.{Layout}
+use Rattle.layout.specs.declared.Layout.{Layout}
 use Rattle.unit.specs.Shape.{small}
 use Rattle.unit.specs.State.{State, lookup}
 use Rattle.unit.specs.Unit.{freshUnit, trimmed, writeSays, written, writeUnit, trimSays, retired, trimmedAt, trimUnit, pruneSays, pruned, prunedTo, pruneUnit, sealSays, sealedAt, sealUnit}

@@ -6,7 +6,7 @@ use Prim.Native.Nat.{ℕ, suc, _≤_, _<_}
 use native.Mathlib.Omega.{arith}
 use borrow.Author.Tests.{eqb-true, eqb-false, ne-eqb}
 use lib.Dec.{eqb}
-use Rattle.layout.specs.declared.value.Layout.{Layout}
+use Rattle.layout.specs.declared.Layout.{Layout}
 use Rattle.layout.specs.declared.holder.Offered.{Offered}
 use Rattle.layout.specs.Value.{layOf, goodValue}
 use Rattle.layout.specs.Holder.{offerAnswer, offeredTo, fetchedFrom}

@@ -9,9 +9,9 @@ use borrow.Author.Tests.{le-leb, leb-true, eq-eqb, ne-eqb}
 use lib.Dec.{eqb, leb}
 use lib.ListN.{getD, set}
 use Rattle.num.specs.Limits.{limit, lastEpoch}
-use Rattle.num.specs.declared.count.Position.{Position}
+use Rattle.num.specs.declared.Position.{Position}
 use Rattle.num.proofs.Tests.{and-both}
-use Rattle.layout.specs.declared.value.Layout.{Layout}
+use Rattle.layout.specs.declared.Layout.{Layout}
 use Rattle.layout.specs.Lay.{Lay, _in?_, unitsOf}
 use Rattle.layout.specs.Value.{layOf}
 use Rattle.layout.specs.Places.{above}

@@ -10,7 +10,7 @@ use lib.Dec.{eqb, leb}
 use lib.ListN.{length}
 use lib.Seq.{getD-append-seam, getD-set-same}
 use Rattle.num.specs.Limits.{limit}
-use Rattle.num.specs.declared.count.Position.{Position}
+use Rattle.num.specs.declared.Position.{Position}
 use Rattle.layout.specs.Value.{layOf, goodValue, blank}
 use Rattle.layout.specs.Places.{setAt, tailOf}
 use Rattle.unit.specs.State.{Slot, State}

@@ -6,7 +6,7 @@ use mathlib.Core.Bool.{true, false}
 use mathlib.Core.List.{[], _∷_}
 use Prim.Native.Nat.{ℕ}
 use lib.ListN.{replicate}
-use Rattle.layout.specs.declared.value.Layout.{Layout}
+use Rattle.layout.specs.declared.Layout.{Layout}
 use Rattle.layout.specs.Lay.{Lay, rising, goodSet, goodSets, goodSpans, firstAtZero, used, good}
 use Rattle.layout.specs.Value.{padded, layOf, valueOf, zeros, tidyChain, tidyChains, blankRanges, tidy, goodValue}
 use Rattle.layout.specs.Places.{placed, setNumber, setAt, headOf, tailOf, after, placeAnswer, unitsAt}

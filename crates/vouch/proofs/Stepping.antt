@@ -9,7 +9,7 @@ use lib.Dec.{eqb, leb, ltb}
 use lib.ListN.{length, set}
 use borrow.Author.Tests.{eqb-true, not-false}
 use Rattle.num.proofs.Tests.{cond-zero}
-use Rattle.layout.specs.declared.value.Layout.{Layout}
+use Rattle.layout.specs.declared.Layout.{Layout}
 use Rattle.sequencer.specs.declared.Asked.the-variants as asked
 use Rattle.sequencer.specs.Rules.{number, becomes, after}
 use Rattle.client.specs.declared.message.Stamp.{Stamp}

@@ -8,8 +8,8 @@ use native.Mathlib.Omega.{arith}
 use lib.ListN.{set, length-set}
 use lib.Seq.{set-getD}
 use Rattle.num.proofs.Tests.{false-true}
-use Rattle.num.specs.declared.count.Request.{Request}
-use Rattle.layout.specs.declared.value.Layout.{Layout}
+use Rattle.num.specs.declared.Request.{Request}
+use Rattle.layout.specs.declared.Layout.{Layout}
 use Rattle.client.specs.declared.message.Stamp.{Stamp}
 use Rattle.client.specs.declared.message.Query.{Query}
 use Rattle.client.specs.declared.state.Client.{Client}

@@ -6,8 +6,8 @@ use Prim.Native.Nat.{ℕ}
 use native.Mathlib.Omega.{arith}
 use lib.Dec.{eqb, leb}
 use borrow.Author.Tests.{eqb-false}
-use Rattle.num.specs.declared.count.Position.{Position}
-use Rattle.num.specs.declared.count.Request.{Request}
+use Rattle.num.specs.declared.Position.{Position}
+use Rattle.num.specs.declared.Request.{Request}
 use Rattle.client.specs.declared.message.Page.{Page as PageValue}
 use Rattle.client.specs.declared.message.Query.{Query}
 use Rattle.client.specs.declared.state.Work.{Work}

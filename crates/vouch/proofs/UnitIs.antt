@@ -5,7 +5,7 @@ use mathlib.Core.Bool.{true, cond}
 use Prim.Native.Nat.{ℕ, _≤_}
 use lib.Dec.{eqb}
 use Rattle.num.specs.Limits.{limit}
-use Rattle.num.specs.declared.count.Position.{Position}
+use Rattle.num.specs.declared.Position.{Position}
 use Rattle.layout.specs.Value.{blank}
 use Rattle.unit.specs.Shape.{small}
 use Rattle.unit.specs.State.{Slot, State}

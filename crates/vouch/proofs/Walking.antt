@@ -6,7 +6,7 @@ use Prim.Native.Nat.{_≤_, _<_}
 use native.Mathlib.Omega.{arith}
 use native.Mathlib.Decide.{decLt}
 use Rattle.num.specs.Limits.{limit}
-use Rattle.layout.specs.declared.value.Layout.{Layout}
+use Rattle.layout.specs.declared.Layout.{Layout}
 use Rattle.layout.specs.Lay.{good}
 use Rattle.layout.specs.Value.{layOf}
 use Rattle.layout.specs.Places.{setAt, headOf, after}

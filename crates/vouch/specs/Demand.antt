@@ -3,7 +3,7 @@
 use mathlib.Core.Path.{_≡_}
 use mathlib.Core.List.{List}
 use Prim.Native.Nat.{ℕ, _<_}
-use Rattle.layout.specs.declared.value.Layout.{Layout}
+use Rattle.layout.specs.declared.Layout.{Layout}
 use Rattle.vouch.specs.Words.{Pos, Epoch, Page, Answer}
 use Rattle.vouch.specs.Words.Page.{junk, bytes}
 use Rattle.vouch.specs.Words.Answer.{shows, trimmed}

@@ -6,8 +6,8 @@ use mathlib.Core.List.{List, [], _∷_}
 use lib.Dec.{eqb}
 use lib.ListN.{length, getD}
 use Rattle.num.specs.Limits.{lastEpoch}
-use Rattle.num.specs.declared.count.Position.{Position}
-use Rattle.layout.specs.declared.value.Layout.{Layout}
+use Rattle.num.specs.declared.Position.{Position}
+use Rattle.layout.specs.declared.Layout.{Layout}
 use Rattle.layout.specs.Lay.{Lay, _in?_, unitsOf}
 use Rattle.layout.specs.Value.{layOf, padded}
 use Rattle.layout.specs.Places.{setAt, tailOf}

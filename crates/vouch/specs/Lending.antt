@@ -2,7 +2,7 @@
 -- what it is lent, and that the yard which is lent is the run's: so demand 3 speaks of the public function.
 -- Rests on Runs and on the yard's Lent and Fresh.
 use mathlib.Core.Path.{_≡_}
-use Rattle.layout.specs.declared.value.Layout.{Layout}
+use Rattle.layout.specs.declared.Layout.{Layout}
 use Rattle.yard.specs.Lent.{Lent, Outcomes, lentNumber, seen, steps}
 use Rattle.yard.specs.Fresh.{freshLent}
 use Rattle.vouch.specs.Runs.{Move, Moves, result, world}

@@ -4,9 +4,9 @@ use mathlib.Core.Path.{_≡_}
 use mathlib.Core.Bool.{Bool, true}
 use Prim.Native.Nat.{ℕ}
 use Rattle.client.specs.Job.{dataPage}
-use Rattle.num.specs.declared.count.Epoch as num-epoch
-use Rattle.num.specs.declared.count.Position.{Position}
-use Rattle.layout.specs.declared.value.Layout.{Layout}
+use Rattle.num.specs.declared.Epoch as num-epoch
+use Rattle.num.specs.declared.Position.{Position}
+use Rattle.layout.specs.declared.Layout.{Layout}
 use Rattle.client.specs.declared.message.Ask.the-variants as ask
 use Rattle.client.specs.declared.state.Work.{Work}
 use Rattle.client.specs.declared.state.Work.the-variants.{Append, Read, Fill, Trim, Prune}

@@ -9,7 +9,7 @@ use lib.Dec.{eqb}
 use lib.ListN.{length, take, drop, length-append, length-drop, drop-of-length-le}
 use lib.Seq.{drop-drop, drop-at, length-take-le}
 use Rattle.num.proofs.Tests.{cond-zero}
-use Rattle.layout.specs.declared.value.Layout.{Layout}
+use Rattle.layout.specs.declared.Layout.{Layout}
 use Rattle.layout.specs.Value.{goodValue, blank}
 use Rattle.unit.specs.Shape.{small}
 use Rattle.unit.specs.Unit.{freshUnit}

@@ -20,9 +20,9 @@ use denote.Enum.Laws as EL
 use Rattle.sequencer.specs.declared.Sequencer.{Sequencer}
 use Rattle.sequencer.proofs.Sequencer as Q
 use Rattle.sequencer.proofs.Sequencer.Laws as Q′
-use Rattle.layout.specs.declared.value.Layout.{Layout}
-use Rattle.layout.proofs.value.Layout as G
-use Rattle.layout.proofs.value.Layout.Laws as G′
+use Rattle.layout.specs.declared.Layout.{Layout}
+use Rattle.layout.proofs.Layout as G
+use Rattle.layout.proofs.Layout.Laws as G′
 use Rattle.client.specs.declared.state.Job.{Job}
 use Rattle.client.proofs.state.Job as J
 use Rattle.client.proofs.state.Job.Laws as J′

@@ -5,10 +5,10 @@ use mathlib.Core.List.{List, []}
 use mathlib.Core.Path.{_≡_, refl, sym, ap, _∙_}
 use borrow.Author.Tests.{not-false}
 use lib.ListN.{getD}
-use Rattle.num.specs.declared.count.Epoch.{Epoch}
-use Rattle.num.specs.declared.count.Position.{Position}
+use Rattle.num.specs.declared.Epoch.{Epoch}
+use Rattle.num.specs.declared.Position.{Position}
 use Rattle.num.proofs.Tests.{and-both}
-use Rattle.layout.specs.declared.value.Layout.{Layout}
+use Rattle.layout.specs.declared.Layout.{Layout}
 use Rattle.unit.specs.State.{State}
 use Rattle.unit.specs.Unit.{freshUnit}
 use Rattle.sequencer.specs.declared.Sequencer.{Sequencer}

@@ -7,7 +7,7 @@ use mathlib.Core.Path.{_≡_}
 use lib.Dec.{eqb}
 use lib.ListN.{length, replicate}
 use Rattle.num.specs.Checks.{lowest, _if_}
-use Rattle.layout.specs.declared.value.Layout.{Layout}
+use Rattle.layout.specs.declared.Layout.{Layout}
 use Rattle.layout.specs.Value.{goodValue, blank}
 use Rattle.unit.specs.State.{State}
 use Rattle.unit.specs.Unit.{freshUnit}

@@ -4,9 +4,9 @@ use mathlib.Core.Bool.{Bool, false, not, cond}
 use mathlib.Core.List.{List, []}
 use lib.Dec.{eqb, leb}
 use lib.ListN.{length, take, set}
-use Rattle.num.specs.declared.count.Epoch.{Epoch}
-use Rattle.num.specs.declared.count.Position.{Position}
-use Rattle.layout.specs.declared.value.Layout.{Layout}
+use Rattle.num.specs.declared.Epoch.{Epoch}
+use Rattle.num.specs.declared.Position.{Position}
+use Rattle.layout.specs.declared.Layout.{Layout}
 use Rattle.layout.specs.declared.holder.Offered.{Offered}
 use Rattle.layout.specs.declared.holder.Fetched.{Fetched}
 use Rattle.layout.specs.Value.{blank, padded}

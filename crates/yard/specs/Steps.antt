@@ -5,7 +5,7 @@ use mathlib.Core.List.{List, [], _∷_, _++_}
 use lib.Dec.{eqb, leb, ltb}
 use lib.ListN.{length, set}
 use Rattle.num.specs.Checks.{lowest, _if_}
-use Rattle.layout.specs.declared.value.Layout.{Layout}
+use Rattle.layout.specs.declared.Layout.{Layout}
 use Rattle.sequencer.specs.declared.Asked.the-variants as asked
 use Rattle.sequencer.specs.Rules.{after}
 use Rattle.client.specs.declared.message.Ask.{Ask}

@@ -5,8 +5,8 @@ use client::message::Ask;
 use client::message::Page;
 use client::message::Reply;
 use client::message::Stamp;
-use layout::value::Layout;
-use num::count::Request;
+use layout::Layout;
+use num::Request;
 
 // Nothing, a request, or an answer.
 pub enum Body {

@@ -16,8 +16,8 @@ use client::state::Client;
 use client::turn::Act;
 use client::turn::Outcome;
 use client::turn::Turn;
+use num::Request;
 use num::bytes::size;
-use num::count::Request;
 use sequencer::Sequencer;
 
 // What is answered, whose operation ended and how; the yard, its count as it was, and the sequencer afterwards;

@@ -1,7 +1,7 @@
 // What the yard keeps by value between two steps, and the steps. The sequencer, the table of letters and the unit memories are lent.
 use client::state::Client;
 use client::turn::Outcome;
-use layout::value::Layout;
+use layout::Layout;
 
 // The held layout, the clients, which units have stopped, and how many letters lie in the bag.
 pub struct Yard {

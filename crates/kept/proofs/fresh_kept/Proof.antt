@@ -39,9 +39,9 @@ use denote.Triple.Clauses.{ensured, lasts}
 use denote.Triple.Table.{entered, cited}
 use denote.Triple.Walked.{says, Stays, stay-slice, stay-dropped, walkOf, AllGo, goes-slice, goes-dropped, Walks, ends-at, walked, walk-meets}
 use denote.Exit.{yes}
-use Rattle.layout.specs.declared.value.Layout.{Layout}
-use Rattle.layout.proofs.value.Layout as G
-use Rattle.layout.proofs.value.Layout.Laws as G′
+use Rattle.layout.specs.declared.Layout.{Layout}
+use Rattle.layout.proofs.Layout as G
+use Rattle.layout.proofs.Layout.Laws as G′
 use Rattle.sequencer.specs.Rules as sequencer
 use Rattle.sequencer.specs.declared.Sequencer.{Sequencer}
 use Rattle.sequencer.proofs.Sequencer as Q

@@ -41,8 +41,8 @@ use denote.Triple.Clauses.{ensured, lasts}
 use denote.Triple.Table.{entered, cited}
 use denote.Triple.Walked.{says, Stays, stay-ref, stay-slice, stay-dropped, walkOf, AllGo, goes-ref, goes-slice, goes-dropped, Walks, ends-at, walked, walk-meets}
 use denote.Exit.{yes}
-use Rattle.layout.specs.declared.value.Layout.{Layout}
-use Rattle.layout.proofs.value.Layout as G
+use Rattle.layout.specs.declared.Layout.{Layout}
+use Rattle.layout.proofs.Layout as G
 use Rattle.sequencer.specs.declared.Sequencer.{Sequencer}
 use Rattle.sequencer.proofs.Sequencer as Q
 use Rattle.yard.specs.Bag.{blanked}
