@@ -9,10 +9,10 @@ use layout::Chain;
 use num::Epoch;
 use num::Position;
 use num::Request;
+use rule::Yard;
 use say::number;
 use say::text;
 use unit::write::write;
-use yard::state::Yard;
 
 fn half(n: u64) -> u32 {
     (n % 4_294_967_296) as u32

@@ -21,9 +21,9 @@ use kept::KeptStep;
 use kept::fresh_kept;
 use kept::step_kept;
 use num::bytes::wide;
+use rule::Stepped;
 use say::number;
 use say::text;
-use yard::state::Stepped;
 
 // The yard between two steps, the steps so far, and how many of them were not as expected.
 pub(crate) struct Run {

@@ -1,9 +1,9 @@
 // The paper's marked examples, then longer runs of the yard: what each row and each step answers and ends is printed, and compared with what is expected.
 use crate::yards::yards;
 use marked::wrong_rows;
+use rule::Yard;
 use say::number;
 use say::text;
-use yard::state::Yard;
 
 mod arrange;
 mod drive;

@@ -16,7 +16,7 @@ use layout::Chain;
 use layout::plan::Wish;
 use num::Position;
 use num::answer::pick;
-use yard::state::Step;
+use rule::Step;
 
 // How often; what is done, and to whom or which; three numbers more; then what must come of it the last time: the answer, the
 // client whose operation ends, and its outcome's number, position, epoch, kind of page, length and first byte. Each time before

@@ -11,10 +11,10 @@ use layout::Layout;
 use num::Epoch;
 use num::Position;
 use num::bytes::wide;
+use rule::Body;
+use rule::Letter;
 use say::number;
 use say::text;
-use yard::letter::Body;
-use yard::letter::Letter;
 
 fn numbered(words: &[u8], n: u64) {
     text(words);

@@ -25,17 +25,17 @@ use denote.Struct.Laws as LL
 use Rattle.sequencer.specs.declared.Sequencer.{Sequencer}
 use Rattle.sequencer.proofs.Sequencer as Q
 use Rattle.sequencer.proofs.Sequencer.Laws as Q′
-use Rattle.yard.specs.declared.letter.Letter.{Letter}
-use Rattle.yard.proofs.letter.Letter as L
-use Rattle.yard.proofs.letter.Letter.Laws as L′
-use Rattle.yard.specs.declared.state.Yard.{Yard}
-use Rattle.yard.proofs.state.Yard as Y
-use Rattle.yard.proofs.state.Yard.Laws as Y′
-use Rattle.yard.specs.declared.state.Stepped.{Stepped}
-use Rattle.yard.proofs.state.Stepped as R
-use Rattle.yard.specs.declared.fresh.Made.{Made}
-use Rattle.yard.proofs.fresh.Made as F
-use Rattle.yard.proofs.fresh.Made.Laws as F′
+use Rattle.rule.specs.declared.Letter.{Letter}
+use Rattle.rule.proofs.Letter as L
+use Rattle.rule.proofs.Letter.Laws as L′
+use Rattle.rule.specs.declared.Yard.{Yard}
+use Rattle.rule.proofs.Yard as Y
+use Rattle.rule.proofs.Yard.Laws as Y′
+use Rattle.rule.specs.declared.Stepped.{Stepped}
+use Rattle.rule.proofs.Stepped as R
+use Rattle.rule.specs.declared.Made.{Made}
+use Rattle.rule.proofs.Made as F
+use Rattle.rule.proofs.Made.Laws as F′
 use Rattle.kept.specs.declared.Kept.{Kept}
 use Rattle.kept.proofs.Kept as K
 use Rattle.kept.proofs.Kept.Laws as K′

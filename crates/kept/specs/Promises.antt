@@ -5,13 +5,13 @@ use lib.ListN.{replicate}
 use Rattle.layout.specs.declared.Layout.{Layout}
 use Rattle.sequencer.specs.Rules as sequencer
 use Rattle.client.specs.declared.state.Job.{Job}
-use Rattle.yard.specs.declared.state.Step.{Step}
+use Rattle.rule.specs.declared.Step.{Step}
 use Rattle.kept.specs.declared.Kept.{Kept}
 use Rattle.kept.specs.declared.KeptStep.{KeptStep}
 use Rattle.kept.specs.declared.KeptMade.{KeptMade}
-use Rattle.yard.specs.World.{letterLimit, blankLetter}
-use Rattle.yard.specs.Lent.{lentOf, IsStep}
-use Rattle.yard.specs.Fresh.{IsMade}
+use Rattle.rule.specs.World.{letterLimit, blankLetter}
+use Rattle.rule.specs.Lent.{lentOf, IsStep}
+use Rattle.rule.specs.Fresh.{IsMade}
 
 abbrev pub IsKeptStep : Kept → List ℕ → Step → Job → KeptStep → List ℕ → Type 0
 IsKeptStep k m s j r after = IsStep (lentOf (k .yard) (k .sequencer) (k .table) m) s j (r .stepped) (r .sequencer) (r .table) after

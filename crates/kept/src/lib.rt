@@ -2,12 +2,12 @@
 ghost use Rattle.kept.specs.Promises.{IsKeptStep, IsKeptMade};
 use client::state::Job;
 use layout::Layout;
+use rule::Letter;
+use rule::Step;
+use rule::Stepped;
+use rule::Yard;
 use sequencer::Sequencer;
 use yard::fresh::fresh;
-use yard::letter::Letter;
-use yard::state::Step;
-use yard::state::Stepped;
-use yard::state::Yard;
 use yard::step::step;
 
 pub struct Kept {

@@ -2,7 +2,7 @@
 use client::turn::Outcome;
 use num::answer::Answer;
 use num::bytes::size;
-use yard::state::Step;
+use rule::Step;
 
 pub(crate) struct Memo {
     // The step at which each client's last operation began.

@@ -17,7 +17,7 @@ use layout::Layout;
 use layout::Range;
 use num::Position;
 use num::bytes::size;
-use yard::state::Step;
+use rule::Step;
 
 fn set(line: &mut [u8], at: usize, c: Chain) -> usize {
     let units = c.units;

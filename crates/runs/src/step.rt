@@ -8,7 +8,7 @@ use crate::seen::Seen;
 use client::state::Job;
 use num::bytes::size;
 use num::bytes::wide;
-use yard::state::Step;
+use rule::Step;
 
 // A step, and what a begin asks for.
 pub(crate) struct Chosen {

@@ -10,8 +10,8 @@ use client::message::Reply;
 use client::state::Client;
 use client::state::Stage;
 use kept::Kept;
-use yard::letter::Body;
-use yard::letter::Letter;
+use rule::Body;
+use rule::Letter;
 
 // What a letter says, field by field; 0 where it has no such field.
 struct Fields {

@@ -15,10 +15,10 @@ use Rattle.client.specs.Message.{noPage, plain}
 use Rattle.client.specs.declared.state.Work.the-variants.{Read}
 use Rattle.client.specs.declared.turn.Outcome.{Outcome}
 use Rattle.client.specs.Client.{busy, jobOf}
-use Rattle.yard.specs.World.{World, clientAt, letterAt}
-use Rattle.yard.specs.Serve.{serve}
-use Rattle.yard.specs.Steps.{Done, request, answerTo}
-use Rattle.vouch.specs.Words.{Page, Answer}
+use Rattle.rule.specs.World.{World, clientAt, letterAt}
+use Rattle.rule.specs.Serve.{serve}
+use Rattle.rule.specs.Steps.{Done, request, answerTo}
+use Rattle.history.specs.Words.{Page, Answer}
 use Rattle.vouch.specs.Runs.{Move, Moves, _≼_, result, world, Asked, AppendDone, Returns, ReadEnds, Reaches, InForce}
 use Rattle.vouch.specs.Runs.Moves.{_▸_}
 use Rattle.vouch.specs.Runs._≼_.{all-of, part-of}

@@ -20,10 +20,10 @@ use Rattle.client.specs.declared.message.Ask.the-variants as ask
 use Rattle.client.specs.Client.{tokenLimit, inStage, atPosition}
 use Rattle.client.specs.Turn.{outcomeOf, rests, ends, otherwise}
 use Rattle.client.specs.Way.{headFor, tailFor, afterFor}
-use Rattle.vouch.specs.History.{History, MarkedBy}
-use Rattle.vouch.specs.History.Mark.{page}
-use Rattle.vouch.specs.History.PageNoted.{by-append}
-use Rattle.vouch.specs.Events.{Run}
+use Rattle.history.specs.History.{History, MarkedBy}
+use Rattle.history.specs.History.Mark.{page}
+use Rattle.history.specs.History.PageNoted.{by-append}
+use Rattle.history.specs.Events.{Run}
 use Rattle.vouch.specs.Layouts.{mapOf}
 use Rattle.vouch.specs.Pages.{carried}
 use Rattle.vouch.proofs.Walks.{units-at}

@@ -23,32 +23,33 @@ use Rattle.client.specs.Client.{busy, lastNumber}
 use Rattle.client.specs.Turn.{rests, sends}
 use Rattle.client.specs.Job.{past, tooLong, jobChecks, positionFor, pageFor, dataPage}
 use Rattle.client.specs.Begin.{beginAnswer, withJob, beginTurn}
-use Rattle.yard.specs.declared.state.Step.the-variants.{Begin}
-use Rattle.yard.specs.World.{World, isClient, clientAt, letterLimit}
-use Rattle.yard.specs.Serve.{kindOf, bytesOf}
-use Rattle.yard.specs.Steps.{refused, turned, beginNumber, begins, step}
-use Rattle.vouch.specs.Words.Page.{bytes}
-use Rattle.vouch.specs.History.{Note, History, _⊑_, Noted, held}
-use Rattle.vouch.specs.History.Note.{append, fillAt, trimAt, pruneTo}
-use Rattle.vouch.specs.History.Event.{ask as asking}
-use Rattle.vouch.specs.History.History.{_▹_}
-use Rattle.vouch.specs.History._⊑_.{here, later}
-use Rattle.vouch.specs.History.Noted.{noted-now, noted-before}
-use Rattle.vouch.specs.History.PageNoted.{by-fill}
-use Rattle.vouch.specs.Events.Run.{run-step}
+use Rattle.rule.specs.declared.Step.the-variants.{Begin}
+use Rattle.rule.specs.World.{World, isClient, clientAt, letterLimit}
+use Rattle.rule.specs.Serve.{kindOf, bytesOf}
+use Rattle.rule.specs.Steps.{refused, turned, beginNumber, begins, step}
+use Rattle.rule.proofs.Lists.{client-range}
+use Rattle.history.specs.Words.Page.{bytes}
+use Rattle.history.specs.History.{Note, History, _⊑_, Noted, held}
+use Rattle.history.specs.History.Note.{append, fillAt, trimAt, pruneTo}
+use Rattle.history.specs.History.Event.{ask as asking}
+use Rattle.history.specs.History.History.{_▹_}
+use Rattle.history.specs.History._⊑_.{here, later}
+use Rattle.history.specs.History.Noted.{noted-now, noted-before}
+use Rattle.history.specs.History.PageNoted.{by-fill}
+use Rattle.history.specs.Events.Run.{run-step}
 use Rattle.vouch.specs.Pages.{pageOf, carried}
 use Rattle.vouch.specs.Runs.{Move, Moves, world, Wants, Asked}
 use Rattle.vouch.specs.Runs.Moves.{_▸_}
 use Rattle.vouch.specs.Runs._≼_.{all-of}
 use Rattle.vouch.specs.Runs.Wants.{wants-append, wants-fill, wants-trim, wants-prune}
-use Rattle.vouch.proofs.Moments.{part-trans}
+use Rattle.history.proofs.Moments.{part-trans}
 use Rattle.vouch.proofs.Untouched.{ask-is}
 use Rattle.vouch.proofs.Meaning.{WorkOk}
 use Rattle.vouch.proofs.Meaning.AskOk.{fetch-ok}
 use Rattle.vouch.proofs.Meaning.Waits.{waits-fetch}
 use Rattle.vouch.proofs.Turns.{TurnOk, sends-ok}
 use Rattle.vouch.proofs.Turns.TurnOk.{rests-ok}
-use Rattle.vouch.proofs.Together.{Good, Next, Or, letters-on, stages-on, client-range}
+use Rattle.vouch.proofs.Together.{Good, Next, Or, letters-on, stages-on}
 use Rattle.vouch.proofs.Together.Or.{either, other}
 use Rattle.vouch.proofs.Turning.{refused-ok, turned-ok}
 

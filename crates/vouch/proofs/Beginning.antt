@@ -22,9 +22,9 @@ use Rattle.client.specs.Turn.{numbered, next, sent, sends}
 use Rattle.client.specs.Job.{past, tooLong}
 use Rattle.client.specs.Begin.{beginAnswer, withJob, beginTurn}
 use Rattle.client.specs.Take.{goesOn, holds, onFetched, answered}
-use Rattle.yard.specs.World.{World, isClient, clientAt}
-use Rattle.yard.specs.Serve.{serve}
-use Rattle.yard.specs.Steps.{Done, turned, beginNumber, begins, step}
+use Rattle.rule.specs.World.{World, isClient, clientAt}
+use Rattle.rule.specs.Serve.{serve}
+use Rattle.rule.specs.Steps.{Done, turned, beginNumber, begins, step}
 use Rattle.vouch.specs.Runs.{Move, result}
 use Rattle.vouch.specs.LastSentence.{Goes, begin, deliver}
 use Rattle.vouch.proofs.Offers.{fetch-does}

@@ -12,25 +12,25 @@ use Rattle.layout.proofs.Values.{value-of-good}
 use Rattle.unit.specs.Shape.{small}
 use Rattle.unit.specs.State.{State}
 use Rattle.unit.proofs.Shown.{shown, shown-limit}
-use Rattle.yard.specs.World.{World, unitAt}
-use Rattle.vouch.specs.Words.{UnitNo, Pos, Page}
-use Rattle.vouch.specs.Maps.{Map, Serves}
-use Rattle.vouch.specs.History.{History, MarkedBy, held}
-use Rattle.vouch.specs.History.Mark.{page}
-use Rattle.vouch.specs.Events.{Run}
-use Rattle.vouch.specs.Safety.{Answers, Settled}
+use Rattle.rule.specs.World.{World, unitAt}
+use Rattle.rule.proofs.Lists.{client-range}
+use Rattle.history.specs.Words.{UnitNo, Pos, Page}
+use Rattle.history.specs.Maps.{Map, Serves}
+use Rattle.history.specs.History.{History, MarkedBy, held}
+use Rattle.history.specs.History.Mark.{page}
+use Rattle.history.specs.Events.{Run}
+use Rattle.history.specs.Safety.{Answers, Settled}
 use Rattle.vouch.specs.Layouts.{mapOf}
 use Rattle.vouch.specs.Runs.{Move, Moves, _≼_, world, AppendDone}
 use Rattle.vouch.specs.Runs.Moves.{_▸_}
 use Rattle.vouch.specs.LastSentence.{Conditions, Again}
-use Rattle.vouch.proofs.Epochs.{laid-by, held-laid}
-use Rattle.vouch.proofs.Settled.{settled-later}
+use Rattle.history.proofs.Epochs.{laid-by, held-laid}
+use Rattle.history.proofs.Settled.{settled-later}
 use Rattle.vouch.proofs.GoodMap.{good-map, unit-within}
 use Rattle.vouch.proofs.Walks.{head-serves}
 use Rattle.vouch.proofs.UnitIs.{UnitIs}
 use Rattle.vouch.proofs.Untouched.{not-marked}
 use Rattle.vouch.proofs.Writing.{empty-answers}
-use Rattle.vouch.proofs.Together.{client-range}
 use Rattle.vouch.proofs.Coming.{come, outcome-of}
 use Rattle.vouch.proofs.Demand.{demand-3}
 use Rattle.vouch.proofs.Forward.{Sound}

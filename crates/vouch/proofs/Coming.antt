@@ -12,24 +12,24 @@ use Rattle.unit.specs.State.{State}
 use Rattle.unit.specs.Unit.{freshUnit}
 use Rattle.client.specs.declared.state.Client.{Client}
 use Rattle.client.specs.Client.{idle, fresh as freshClient}
-use Rattle.yard.specs.World.{clientAt, unitAt}
-use Rattle.yard.specs.Fresh.{freshUnits, freshWorld}
-use Rattle.vouch.specs.History.{Note, History, _⊑_, Noted, held}
-use Rattle.vouch.specs.History.History.{fresh}
-use Rattle.vouch.specs.History._⊑_.{here}
-use Rattle.vouch.specs.Events.Run.{run-fresh}
+use Rattle.rule.specs.World.{clientAt, unitAt}
+use Rattle.rule.specs.Fresh.{freshUnits, freshWorld}
+use Rattle.history.specs.History.{Note, History, _⊑_, Noted, held}
+use Rattle.history.specs.History.History.{fresh}
+use Rattle.history.specs.History._⊑_.{here}
+use Rattle.history.specs.Events.Run.{run-fresh}
 use Rattle.vouch.specs.Layouts.{mapOf}
-use Rattle.vouch.specs.Maps.{Map}
+use Rattle.history.specs.Maps.{Map}
 use Rattle.vouch.specs.Runs.{Move, Moves, _≼_, result, world, Asked}
 use Rattle.vouch.specs.Runs.Moves.{none, _▸_}
 use Rattle.vouch.specs.Runs._≼_.{all-of, part-of}
-use Rattle.vouch.proofs.Moments.{part-trans}
+use Rattle.history.proofs.Moments.{part-trans}
 use Rattle.vouch.proofs.GoodMap.{good-map}
 use Rattle.vouch.proofs.Untouched.{fresh-is}
 use Rattle.vouch.proofs.UnitIs.{UnitIs}
 use Rattle.vouch.proofs.Meaning.{StageOk, OutcomeOk}
 use Rattle.vouch.proofs.GoodMap.{epoch-of}
-use Rattle.vouch.proofs.Lists.All.{all-none}
+use Rattle.rule.proofs.Lists.All.{all-none}
 use Rattle.vouch.proofs.Together.{Good, Next, Or}
 use Rattle.vouch.proofs.Together.Or.{either, other}
 use Rattle.vouch.proofs.Stepping.{step-ok}

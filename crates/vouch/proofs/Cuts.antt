@@ -20,24 +20,24 @@ use Rattle.client.specs.declared.message.Ask.the-variants as ask
 use Rattle.client.specs.Client.{inStage}
 use Rattle.client.specs.Turn.{outcomeOf, ends}
 use Rattle.client.specs.Way.{afterFor, unitAbove}
-use Rattle.vouch.specs.Words.{UnitNo, Pos, Answer}
-use Rattle.vouch.specs.Words.Answer.{shows}
-use Rattle.vouch.specs.Maps.{Has}
-use Rattle.vouch.specs.History.{History, Noted, MarkedBy}
-use Rattle.vouch.specs.History.Note.{pruneTo}
-use Rattle.vouch.specs.History.Mark.{page, gone}
-use Rattle.vouch.specs.Events.{Takes, Run}
+use Rattle.history.specs.Words.{UnitNo, Pos, Answer}
+use Rattle.history.specs.Words.Answer.{shows}
+use Rattle.history.specs.Maps.{Has}
+use Rattle.history.specs.History.{History, Noted, MarkedBy}
+use Rattle.history.specs.History.Note.{pruneTo}
+use Rattle.history.specs.History.Mark.{page, gone}
+use Rattle.history.specs.Events.{Takes, Run}
 use Rattle.vouch.specs.Layouts.{mapOf}
 use Rattle.vouch.specs.Pages.{carried}
 use Rattle.vouch.proofs.Walks.{next-has, next-next}
 use Rattle.client.specs.Trim.{trims, trimsOn, onTrimmed, prunes, prunesOn, onPruned}
 use Rattle.client.specs.Read.{reads, onRead}
-use Rattle.vouch.specs.Words.Answer.{trimmed, unwritten}
+use Rattle.history.specs.Words.Answer.{trimmed, unwritten}
 use Rattle.vouch.specs.Runs.{Returns}
 use Rattle.vouch.specs.Runs.Returns.{returns-page, returns-trimmed, returns-unwritten}
-use Rattle.vouch.proofs.Order.{last-in}
-use Rattle.vouch.proofs.Moments.{laid-on}
-use Rattle.vouch.proofs.Epochs.{laid-one}
+use Rattle.history.proofs.Order.{last-in}
+use Rattle.history.proofs.Moments.{laid-on}
+use Rattle.history.proofs.Epochs.{laid-one}
 use Rattle.vouch.proofs.Meaning.{Saw, Fetched, Walking, TrimmingOk, PruningOk, ReadingOk, WasRead, OutcomeOk}
 use Rattle.vouch.proofs.Meaning.AskOk.{look-ok, trim-ok, prune-ok}
 use Rattle.vouch.proofs.Meaning.Waits.{waits-read, waits-trim, waits-prune}

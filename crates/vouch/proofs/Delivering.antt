@@ -21,24 +21,24 @@ use Rattle.client.specs.declared.turn.Turn.{Turn}
 use Rattle.client.specs.Client.{busy}
 use Rattle.client.specs.Turn.{rests}
 use Rattle.client.specs.Take.{answered, awaited, takes}
-use Rattle.yard.specs.declared.letter.Letter.{Letter}
-use Rattle.yard.specs.declared.letter.Body.{Body}
-use Rattle.yard.specs.declared.letter.Body.the-variants.{Blank, Asks, Answers}
-use Rattle.yard.specs.declared.state.Step.the-variants.{Deliver}
-use Rattle.yard.specs.World.{World, isClient, clientAt, letterAt, blankLetter}
-use Rattle.yard.specs.Serve.{Served, serve, unserved}
-use Rattle.yard.specs.Steps.{Done, refused, fine, keeping, tooMany, withLetters, sentBy, turned, answerTo, answers, served, taken, response, unbrought, brought, delivered, delivers, step}
-use Rattle.vouch.specs.History.{History}
+use Rattle.rule.specs.declared.Letter.{Letter}
+use Rattle.rule.specs.declared.Body.{Body}
+use Rattle.rule.specs.declared.Body.the-variants.{Blank, Asks, Answers}
+use Rattle.rule.specs.declared.Step.the-variants.{Deliver}
+use Rattle.rule.specs.World.{World, isClient, clientAt, letterAt, blankLetter}
+use Rattle.rule.specs.Serve.{Served, serve, unserved}
+use Rattle.rule.specs.Steps.{Done, refused, fine, keeping, tooMany, withLetters, sentBy, turned, answerTo, answers, served, taken, response, unbrought, brought, delivered, delivers, step}
+use Rattle.history.specs.History.{History}
 use Rattle.vouch.specs.Runs.{Move, Moves, world, result}
 use Rattle.vouch.specs.Runs.Moves.{_▸_}
 use Rattle.vouch.specs.Runs._≼_.{all-of, part-of}
 use Rattle.vouch.proofs.Meaning.{StageOk}
-use Rattle.vouch.proofs.Lists.{All, all-map, all-at, all-without, all-end, all-same}
+use Rattle.rule.proofs.Lists.{All, all-map, all-at, all-without, all-end, all-same, client-range}
 use Rattle.vouch.proofs.Machines.{ServedOk, serve-ok}
 use Rattle.vouch.proofs.Turns.{TurnOk}
 use Rattle.vouch.proofs.Turns.TurnOk.{rests-ok}
 use Rattle.vouch.proofs.Replies.{reply-ok}
-use Rattle.vouch.proofs.Together.{RequestOk, BodyOk, clientOf, LetterOk, Good, Next, Or, client-range, letters-on, stages-on}
+use Rattle.vouch.proofs.Together.{RequestOk, BodyOk, clientOf, LetterOk, Good, Next, Or, letters-on, stages-on}
 use Rattle.vouch.proofs.Together.Or.{either, other}
 use Rattle.vouch.proofs.Turning.{machines-as, refused-ok, turned-ok}
 

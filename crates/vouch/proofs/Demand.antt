@@ -19,25 +19,26 @@ use Rattle.client.specs.declared.message.Response.{Response}
 use Rattle.client.specs.declared.message.Stamp.{Stamp}
 use Rattle.client.specs.declared.state.Job.{Job}
 use Rattle.client.specs.declared.state.Work.the-variants as work
-use Rattle.yard.specs.declared.letter.Letter.{Letter}
-use Rattle.yard.specs.declared.letter.Body.{Body}
-use Rattle.yard.specs.declared.letter.Body.the-variants.{Asks, Answers}
-use Rattle.yard.specs.declared.state.Step.{Step}
-use Rattle.yard.specs.declared.state.Step.the-variants.{Deliver}
-use Rattle.yard.specs.World.{World, isClient, isUnit, clientAt, letterAt}
-use Rattle.yard.specs.Serve.{serve, unserved}
-use Rattle.yard.specs.Steps.{refused, keeping, response, answerTo, unbrought, brought, delivered, delivers, step}
-use Rattle.vouch.specs.Words.{UnitNo, Pos, Epoch, Page, Answer}
-use Rattle.vouch.specs.Words.Answer.{shows}
-use Rattle.vouch.specs.Maps.{Map, Serves}
-use Rattle.vouch.specs.History.{History, PageNoted, MarkedBy, held}
-use Rattle.vouch.specs.History.Note.{append}
-use Rattle.vouch.specs.History.PageNoted.{by-append as noted-append, by-fill as noted-fill}
-use Rattle.vouch.specs.History.Mark.{page}
-use Rattle.vouch.specs.Events.{Run}
-use Rattle.vouch.specs.Safety.{GoneAsked, Answers as AnswersAt}
-use Rattle.vouch.specs.Safety.Answers.{has-page, has-gone, has-none}
-use Rattle.vouch.specs.Safety.GoneAsked.{by-trim as gone-by-trim, by-prune as gone-by-prune}
+use Rattle.rule.specs.declared.Letter.{Letter}
+use Rattle.rule.specs.declared.Body.{Body}
+use Rattle.rule.specs.declared.Body.the-variants.{Asks, Answers}
+use Rattle.rule.specs.declared.Step.{Step}
+use Rattle.rule.specs.declared.Step.the-variants.{Deliver}
+use Rattle.rule.specs.World.{World, isClient, isUnit, clientAt, letterAt}
+use Rattle.rule.specs.Serve.{serve, unserved}
+use Rattle.rule.specs.Steps.{refused, keeping, response, answerTo, unbrought, brought, delivered, delivers, step}
+use Rattle.rule.proofs.Lists.{unit-range, unit-runs, client-range}
+use Rattle.history.specs.Words.{UnitNo, Pos, Epoch, Page, Answer}
+use Rattle.history.specs.Words.Answer.{shows}
+use Rattle.history.specs.Maps.{Map, Serves}
+use Rattle.history.specs.History.{History, PageNoted, MarkedBy, held}
+use Rattle.history.specs.History.Note.{append}
+use Rattle.history.specs.History.PageNoted.{by-append as noted-append, by-fill as noted-fill}
+use Rattle.history.specs.History.Mark.{page}
+use Rattle.history.specs.Events.{Run}
+use Rattle.history.specs.Safety.{GoneAsked, Answers as AnswersAt}
+use Rattle.history.specs.Safety.Answers.{has-page, has-gone, has-none}
+use Rattle.history.specs.Safety.GoneAsked.{by-trim as gone-by-trim, by-prune as gone-by-prune}
 use Rattle.vouch.specs.Runs.{Move, Moves, _≼_, result, world, Wants, Asked, AppendDone, ReadEnds, Reaches, InForce}
 use Rattle.vouch.specs.Runs.Moves.{_▸_}
 use Rattle.vouch.specs.Runs.Wants.{wants-append}
@@ -45,19 +46,18 @@ use Rattle.vouch.specs.Demand.{PageAsked, CutAsked, Rightly, Demand3, Re
 use Rattle.vouch.specs.Demand.PageAsked.{by-append, by-fill}
 use Rattle.vouch.specs.Demand.CutAsked.{by-trim, by-prune}
 use Rattle.vouch.specs.Demand.Rightly.{that-page, trim-asked}
-use Rattle.vouch.proofs.Moments.{part-trans, page-noted-on}
-use Rattle.vouch.proofs.Epochs.{laid-by, laid-good}
-use Rattle.vouch.proofs.Marks.{page-one, gone-asked}
-use Rattle.vouch.proofs.Settled.{settled-on, settled-later}
-use Rattle.vouch.proofs.Safety.{safe}
+use Rattle.history.proofs.Moments.{part-trans, page-noted-on}
+use Rattle.history.proofs.Epochs.{laid-by, laid-good}
+use Rattle.history.proofs.Marks.{page-one, gone-asked}
+use Rattle.history.proofs.Settled.{settled-on, settled-later}
+use Rattle.history.proofs.Safety.{safe}
 use Rattle.vouch.proofs.UnitIs.{ReadDone}
 use Rattle.vouch.proofs.UnitIs.ReadDone.{read-page, read-trimmed, read-unwritten, no-read}
 use Rattle.vouch.proofs.Reading.{read-does}
 use Rattle.vouch.proofs.GoodMap.{epoch-of}
-use Rattle.vouch.proofs.Machines.{unit-range, unit-runs}
 use Rattle.vouch.proofs.Meaning.{AskOk, LookOk, AppendedOk, WasRead}
 use Rattle.vouch.proofs.Meaning.AskOk.{look-ok}
-use Rattle.vouch.proofs.Together.{letter-there, RequestOk, BodyOk, clientOf, client-range}
+use Rattle.vouch.proofs.Together.{letter-there, RequestOk, BodyOk, clientOf}
 use Rattle.vouch.proofs.Coming.{come, outcome-of, come-part}
 use Rattle.vouch.proofs.Taking.{Tells}
 use Rattle.vouch.proofs.Taking.Tells.{tells-page, tells-trimmed, tells-unwritten}

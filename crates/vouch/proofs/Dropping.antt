@@ -13,7 +13,7 @@ use Rattle.layout.specs.Lay.{_in?_, inSets, unitsOf}
 use Rattle.layout.specs.Plan.{without, badDrops, emptied}
 use Rattle.layout.proofs.Bools.{and-intro}
 use Rattle.layout.proofs.Sets.{in-some, units-in, units-rise, rising-within}
-use Rattle.yard.specs.World.{isUnit, running}
+use Rattle.rule.specs.World.{isUnit, running}
 use Rattle.vouch.specs.LastSentence.{stoppedFrom, WorkingUnit}
 
 -- ---- the stopped units

@@ -20,23 +20,24 @@ use Rattle.client.specs.declared.turn.Turn.{Turn}
 use Rattle.client.specs.Client.{busy}
 use Rattle.client.specs.Turn.{rests}
 use Rattle.client.specs.Take.{answered, awaited, takes}
-use Rattle.yard.specs.declared.letter.Letter.{Letter}
-use Rattle.yard.specs.World.{World, isClient, clientAt, letterAt, running}
+use Rattle.rule.specs.declared.Letter.{Letter}
+use Rattle.rule.specs.World.{World, isClient, clientAt, letterAt, running}
 use Rattle.client.specs.declared.state.Job.{Job}
-use Rattle.yard.specs.declared.letter.Body.{Body}
-use Rattle.yard.specs.declared.letter.Body.the-variants.{Blank, Asks, Answers}
-use Rattle.yard.specs.declared.state.Step.{Step}
-use Rattle.yard.specs.declared.state.Step.the-variants.{Begin, Deliver, Drop, Stop, Restart, GiveUp, Forget}
-use Rattle.yard.specs.Steps.{Done, refused, fine, without, withLetters, withClient, withStopped, keeping, tooMany, sentBy, turned, response, answers, served, taken, unbrought, brought, delivered, delivers, drops, stops, restartNumber, restarts, forgets, step}
-use Rattle.vouch.specs.Words.{Answer}
-use Rattle.vouch.specs.History.{History}
+use Rattle.rule.specs.declared.Body.{Body}
+use Rattle.rule.specs.declared.Body.the-variants.{Blank, Asks, Answers}
+use Rattle.rule.specs.declared.Step.{Step}
+use Rattle.rule.specs.declared.Step.the-variants.{Begin, Deliver, Drop, Stop, Restart, GiveUp, Forget}
+use Rattle.rule.specs.Steps.{Done, refused, fine, without, withLetters, withClient, withStopped, keeping, tooMany, sentBy, turned, response, answers, served, taken, unbrought, brought, delivered, delivers, drops, stops, restartNumber, restarts, forgets, step}
+use Rattle.history.specs.Words.{Answer}
+use Rattle.history.specs.History.{History}
 use Rattle.vouch.specs.Runs.{Moves, Returns}
 use Rattle.client.specs.Begin.{restarted}
-use Rattle.yard.specs.Serve.{serve}
+use Rattle.rule.specs.Serve.{serve}
+use Rattle.rule.proofs.Lists.{client-range}
 use lib.ListN.{length, set}
 use Prim.Native.Nat.{_-_}
 use Rattle.vouch.proofs.Taking.{Over, Told, told, Took, rests-not, ended-by, nobody, over-of, begin-not, give-up-not}
-use Rattle.vouch.proofs.Together.{letter-there, Current, Answered, BodyOk, clientOf, LetterOk, Good, client-range}
+use Rattle.vouch.proofs.Together.{letter-there, Current, Answered, BodyOk, clientOf, LetterOk, Good}
 
 module _ (w : World) (j : Job) (c : ℕ) (r : Answer) (low : 1 ≤ c) where
   module _ (i : ℕ) (keep keepAnswer : Bool) where

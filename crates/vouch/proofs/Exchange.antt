@@ -21,14 +21,14 @@ use Rattle.client.specs.declared.turn.Turn.{Turn}
 use Rattle.client.specs.Client.{fresh, lastNumber}
 use Rattle.client.specs.Turn.{numbered, next, sends}
 use Rattle.client.specs.Take.{answered, awaited, takes}
-use Rattle.yard.specs.declared.letter.Letter.{Letter}
-use Rattle.yard.specs.World.{World, isClient, clientAt, blankLetter}
-use Rattle.yard.specs.Serve.{Served, serve, unserved}
-use Rattle.yard.specs.Steps.{Done, fine, without, tooMany, request, ended, sentBy, turned, answerTo, served, taken, delivered, delivers, step}
+use Rattle.rule.specs.declared.Letter.{Letter}
+use Rattle.rule.specs.World.{World, isClient, clientAt, blankLetter}
+use Rattle.rule.specs.Serve.{Served, serve, unserved}
+use Rattle.rule.specs.Steps.{Done, fine, without, tooMany, request, ended, sentBy, turned, answerTo, served, taken, delivered, delivers, step}
 use Rattle.vouch.specs.Runs.{Move, result}
 use Rattle.vouch.specs.LastSentence.{Goes, deliver}
 use Rattle.vouch.specs.LastSentence.Goes.{ends, goes}
-use Rattle.vouch.proofs.Lists.{posted-few}
+use Rattle.rule.proofs.Lists.{posted-few}
 
 -- ---- tests
 

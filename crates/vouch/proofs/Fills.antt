@@ -17,17 +17,17 @@ use Rattle.client.specs.declared.message.Ask.the-variants as ask
 use Rattle.client.specs.Client.{inStage, carrying}
 use Rattle.client.specs.Turn.{ends, otherwise}
 use Rattle.client.specs.Way.{headFor, afterFor}
-use Rattle.vouch.specs.Words.{UnitNo, Pos, Epoch, Page}
-use Rattle.vouch.specs.Words.Answer.{shows}
-use Rattle.vouch.specs.Maps.{Map}
-use Rattle.vouch.specs.History.{History, MarkedBy}
-use Rattle.vouch.specs.History.Mark.{page}
-use Rattle.vouch.specs.Events.{Takes, Run}
-use Rattle.vouch.specs.Safety.{Answers}
-use Rattle.vouch.specs.Safety.Answers.{has-page}
+use Rattle.history.specs.Words.{UnitNo, Pos, Epoch, Page}
+use Rattle.history.specs.Words.Answer.{shows}
+use Rattle.history.specs.Maps.{Map}
+use Rattle.history.specs.History.{History, MarkedBy}
+use Rattle.history.specs.History.Mark.{page}
+use Rattle.history.specs.Events.{Takes, Run}
+use Rattle.history.specs.Safety.{Answers}
+use Rattle.history.specs.Safety.Answers.{has-page}
 use Rattle.vouch.specs.Pages.{carried}
-use Rattle.vouch.proofs.Moments.{run-part, by-on}
-use Rattle.vouch.proofs.Marks.{marked-to, page-asked}
+use Rattle.history.proofs.Moments.{run-part, by-on}
+use Rattle.history.proofs.Marks.{marked-to, page-asked}
 use Rattle.vouch.proofs.Walks.{head-least}
 use Rattle.client.specs.Fill.{fills, looks, fillsOn, notFilled, onFilled, onLooked}
 use Rattle.vouch.proofs.Meaning.{Saw, WrittenBefore, Walking, FillingOk, LookingOk}

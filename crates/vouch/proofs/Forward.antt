@@ -39,8 +39,8 @@ use Rattle.sequencer.specs.Rules.{number, told, after}
 use Rattle.sequencer.specs.Rules.{position as positionAt}
 use Rattle.client.specs.declared.message.Reply.the-variants.{Edge}
 use Rattle.client.specs.Client.{noChange}
-use Rattle.yard.specs.World.{World, running, unitAt}
-use Rattle.yard.specs.Serve.{edged}
+use Rattle.rule.specs.World.{World, running, unitAt}
+use Rattle.rule.specs.Serve.{edged}
 use Rattle.vouch.specs.LastSentence.{stoppedUnits, newLayout, Conditions}
 use Rattle.vouch.proofs.Dropping.{drops-good, none-emptied, left-work}
 use Rattle.vouch.proofs.Exchange.{pass}

@@ -17,10 +17,10 @@ use Rattle.layout.proofs.Goodness.{good-says}
 use Rattle.layout.proofs.Goods.{set-at-good, is-good-set}
 use Rattle.layout.proofs.Sets.{in-none, in-cases, in-first, in-later, rises, rising-within, units-rise, in-units}
 use Rattle.layout.proofs.Succession.{Kept, unit-kept, one-stays, at-in-units}
-use Rattle.vouch.specs.Words.{UnitNo, Pos, _∈_, Rising}
-use Rattle.vouch.specs.Words._∈_.{first, next}
-use Rattle.vouch.specs.Words.Rising.{rising-none, rising-more}
-use Rattle.vouch.specs.Maps.{Has, Good, Renewed, Successor}
+use Rattle.history.specs.Words.{UnitNo, Pos, _∈_, Rising}
+use Rattle.history.specs.Words._∈_.{first, next}
+use Rattle.history.specs.Words.Rising.{rising-none, rising-more}
+use Rattle.history.specs.Maps.{Has, Good, Renewed, Successor}
 use Rattle.vouch.specs.Layouts.{mapOf}
 
 -- ---- lists of units, as the layout's laws speak of them

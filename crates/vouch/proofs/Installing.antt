@@ -31,9 +31,9 @@ use Rattle.client.specs.Turn.{ends as endsWith}
 use Rattle.client.specs.Way.{startFor}
 use Rattle.client.specs.Reorganise.{offers, allSealed, starts, onOffered, onStarted}
 use Rattle.client.specs.Take.{answered}
-use Rattle.yard.specs.World.{World}
-use Rattle.yard.specs.Serve.{telling, bare, withSequencer, asking, offeringTo, serve}
-use Rattle.yard.specs.Steps.{Done}
+use Rattle.rule.specs.World.{World}
+use Rattle.rule.specs.Serve.{telling, bare, withSequencer, asking, offeringTo, serve}
+use Rattle.rule.specs.Steps.{Done}
 use Rattle.vouch.specs.LastSentence.{exchanges, Conditions}
 use Rattle.vouch.proofs.Exchange.{yard, after, waiting, GoesOn, as-turn, sends-on, Asked, exchange-on, exchange-ends}
 use Rattle.vouch.proofs.Forward.{Sound, offered, start-is, offer-is, offered-next, UnitsOn, start-told, start-after}

@@ -28,14 +28,14 @@ use Rattle.client.specs.Job.{dataPage}
 use Rattle.client.specs.Begin.{beginAnswer, withJob, beginTurn, giveUp}
 use Rattle.client.specs.Take.{goesOn, holds, onFetched, answered, awaited, takes}
 use Rattle.client.specs.Reorganise.{seals, offers, allSealed, sealsOn, reorganises, larger, sealedAt as client-sealed-at, onSealed, starts, onOffered, onStarted}
-use Rattle.yard.specs.declared.state.Step.{Step}
-use Rattle.yard.specs.declared.state.Step.the-variants.{Drop, Stop, GiveUp}
-use Rattle.yard.specs.World.{clientAt}
-use Rattle.yard.specs.Steps.{without as letters-without, turned, beginNumber, begins, served, taken, delivered, delivers, drops, stops, givesUp, step}
-use Rattle.yard.specs.Serve.{kindOf, bytesOf, pageOf, shown, edged, asking, fetching, offeringTo, serve}
-use Rattle.yard.specs.Fresh.{freshUnits, freshWorld}
-use Rattle.vouch.specs.Words.Page.{bytes}
-use Rattle.vouch.specs.Words.Answer.{shows}
+use Rattle.rule.specs.declared.Step.{Step}
+use Rattle.rule.specs.declared.Step.the-variants.{Drop, Stop, GiveUp}
+use Rattle.rule.specs.World.{clientAt}
+use Rattle.rule.specs.Steps.{without as letters-without, turned, beginNumber, begins, served, taken, delivered, delivers, drops, stops, givesUp, step}
+use Rattle.rule.specs.Serve.{kindOf, bytesOf, pageOf, shown, edged, asking, fetching, offeringTo, serve}
+use Rattle.rule.specs.Fresh.{freshUnits, freshWorld}
+use Rattle.history.specs.Words.Page.{bytes}
+use Rattle.history.specs.Words.Answer.{shows}
 use Rattle.vouch.specs.Runs.{Move, Moves, result, world, ReadEnds}
 use Rattle.vouch.specs.Runs.Moves.{_▸_}
 use Rattle.vouch.specs.Runs._≼_.{all-of, part-of}

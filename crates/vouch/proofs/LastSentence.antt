@@ -39,8 +39,8 @@ use Rattle.client.specs.Begin.{withJob}
 use Rattle.client.specs.Way.{planFor}
 use Rattle.client.specs.Reorganise.{reorganises, sealsOn}
 use Rattle.client.specs.Take.{goesOn}
-use Rattle.yard.specs.World.{World, running, clientAt, unitAt}
-use Rattle.yard.specs.Steps.{Done}
+use Rattle.rule.specs.World.{World, running, clientAt, unitAt}
+use Rattle.rule.specs.Steps.{Done}
 use Rattle.vouch.specs.LastSentence.{Goes, begin, exchanges, stoppedUnits, dropStopped, newLayout, unitCount, reorganising, Conditions, tailIn, tailSays, tailShows, Answering, ReadsTail, Answerable}
 use Rattle.vouch.specs.LastSentence.Answering.{page, trimmed, unwritten}
 use Rattle.vouch.proofs.Dropping.{drops-few}

@@ -12,14 +12,14 @@ use Rattle.client.specs.declared.state.Stage.{Stage}
 use Rattle.client.specs.declared.state.Stage.the-variants.{Idle, Fetching, Drawing, Writing, Reading, Filling, Looking, Trimming, Pruning, Sealing, Offering, Starting}
 use Rattle.client.specs.declared.state.Client.{Client}
 use Rattle.num.specs.declared.Position.{Position}
-use Rattle.vouch.specs.Words.{UnitNo, Pos, Epoch, Answer}
-use Rattle.vouch.specs.History.{History, _⊑_, Mark, held}
-use Rattle.vouch.specs.History._⊑_.{here, later}
-use Rattle.vouch.specs.Events.{Run}
-use Rattle.vouch.specs.Events.Run.{run-step}
-use Rattle.vouch.proofs.Moments.{part-trans, noted-on, page-noted-on, laid-on, by-on}
-use Rattle.vouch.proofs.Epochs.{held-rises}
-use Rattle.vouch.proofs.Edges.{seal-stays}
+use Rattle.history.specs.Words.{UnitNo, Pos, Epoch, Answer}
+use Rattle.history.specs.History.{History, _⊑_, Mark, held}
+use Rattle.history.specs.History._⊑_.{here, later}
+use Rattle.history.specs.Events.{Run}
+use Rattle.history.specs.Events.Run.{run-step}
+use Rattle.history.proofs.Moments.{part-trans, noted-on, page-noted-on, laid-on, by-on}
+use Rattle.history.proofs.Epochs.{held-rises}
+use Rattle.history.proofs.Edges.{seal-stays}
 use Rattle.vouch.proofs.Offers.{OfferOk}
 use Rattle.vouch.proofs.Meaning.{AskOk, Saw, Means, WorkOk, Fetched, Walking, StageOk}
 use Rattle.vouch.proofs.Meaning.AskOk.{fetch-ok, token-ok, write-ok, look-ok, trim-ok, prune-ok, seal-ok, offer-ok, start-ok}

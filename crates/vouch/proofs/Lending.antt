@@ -20,11 +20,11 @@ use Rattle.client.specs.declared.state.Client.{Client}
 use Rattle.client.specs.declared.state.Stage.{Stage}
 use Rattle.client.specs.declared.state.Stage.the-variants.{Idle, Fetching, Drawing, Writing, Reading, Filling, Looking, Trimming, Pruning, Sealing, Offering, Starting}
 use Rattle.client.specs.Client.{fresh}
-use Rattle.yard.specs.declared.letter.Letter.{Letter}
-use Rattle.yard.specs.World.{World, blankLetter, unitAt, clientAt}
-use Rattle.yard.specs.Lent.{Lent, Outcomes, unitSize, goodUnits, fetched, goodClients, lentNumber, unitsIn, seen, unitsBytes, laid, left, done, steps}
-use Rattle.yard.specs.Fresh.{freshWorld, freshLent}
-use Rattle.vouch.specs.History.{History}
+use Rattle.rule.specs.declared.Letter.{Letter}
+use Rattle.rule.specs.World.{World, blankLetter, unitAt, clientAt}
+use Rattle.rule.specs.Lent.{Lent, Outcomes, unitSize, goodUnits, fetched, goodClients, lentNumber, unitsIn, seen, unitsBytes, laid, left, done, steps}
+use Rattle.rule.specs.Fresh.{freshWorld, freshLent}
+use Rattle.history.specs.History.{History}
 use Rattle.vouch.specs.Runs.{Move, Moves, result, world}
 use Rattle.vouch.specs.Runs.Moves.{none, _▸_}
 use Rattle.vouch.specs.Lending.{lent, Lends}

@@ -1,15 +1,3 @@
--- The laws of the history, in the order in which each rests on those before it.
-pub mod Order
-pub mod Moments
-pub mod Epochs
-pub mod Marks
-pub mod Chain
-pub mod Follows
-pub mod Settled
-pub mod Safety
-pub mod Units
-pub mod Edges
-pub mod Example
 -- Layouts as maps, units and their history, the holder.
 pub mod GoodMap
 pub mod Walks
@@ -31,7 +19,6 @@ pub mod Fills
 pub mod Cuts
 pub mod Reorganises
 pub mod Replies
-pub mod Lists
 pub mod Machines
 pub mod Together
 pub mod Turning

@@ -1,13 +1,11 @@
 -- The machines of the yard and the history go together; and whatever a machine answers to a request that vouches for what it must, means what it says.
 -- Rests on Meaning, Lists and on the laws of units and of the holder.
 use mathlib.Core.Path.{_≡_, refl, sym, subst, _∙_}
-use mathlib.Core.Bool.{Bool, true, false, not, cond, _&&_}
-use Prim.Native.Nat.{ℕ, _-_, _≤_}
+use mathlib.Core.Bool.{Bool, true, false, not, cond}
+use Prim.Native.Nat.{_-_, _≤_}
 use native.Mathlib.Omega.{arith}
-use lib.Dec.{eqb, leb}
+use lib.Dec.{eqb}
 use lib.ListN.{length, length-set, getD}
-use borrow.Author.Tests.{leb-true}
-use Rattle.num.proofs.Tests.{false-true, and-both}
 use Rattle.num.specs.declared.Epoch.{Epoch as EpochValue}
 use Rattle.num.specs.declared.Position.{Position}
 use Rattle.layout.specs.declared.Layout.{Layout}
@@ -25,20 +23,20 @@ use Rattle.client.specs.declared.message.Ask.{Ask}
 use Rattle.client.specs.declared.message.Ask.the-variants.{Fetch, Token, Write, Read, Trim, Prune, Seal, Offer, Start}
 use Rattle.client.specs.declared.message.Reply.{Reply}
 use Rattle.client.specs.declared.message.Response.{Response}
-use Rattle.yard.specs.World.{World, unitAt, isUnit}
-use Rattle.yard.specs.Serve.{Served, saying, bare, kindOf, bytesOf, shown, edged, withUnit, withSequencer, withHeld, asking, offeringTo, serve, unserved}
-use Rattle.vouch.specs.Words.{UnitNo, Pos, Epoch, Page}
-use Rattle.vouch.specs.Maps.{Map}
-use Rattle.vouch.specs.History.{Note, History, _⊑_, Noted, Laid, held}
-use Rattle.vouch.specs.History.Event.{write, trim, prune, seal, install}
-use Rattle.vouch.specs.History.History.{_▹_}
-use Rattle.vouch.specs.History._⊑_.{here, later}
-use Rattle.vouch.specs.History.Noted.{noted-before}
-use Rattle.vouch.specs.Events.{Run}
-use Rattle.vouch.specs.Events.Run.{run-step}
+use Rattle.rule.specs.World.{World, unitAt, isUnit}
+use Rattle.rule.specs.Serve.{Served, saying, bare, kindOf, bytesOf, shown, edged, withUnit, withSequencer, withHeld, asking, offeringTo, serve, unserved}
+use Rattle.history.specs.Words.{UnitNo, Pos, Epoch, Page}
+use Rattle.history.specs.Maps.{Map}
+use Rattle.history.specs.History.{Note, History, _⊑_, Noted, Laid, held}
+use Rattle.history.specs.History.Event.{write, trim, prune, seal, install}
+use Rattle.history.specs.History.History.{_▹_}
+use Rattle.history.specs.History._⊑_.{here, later}
+use Rattle.history.specs.History.Noted.{noted-before}
+use Rattle.history.specs.Events.{Run}
+use Rattle.history.specs.Events.Run.{run-step}
 use Rattle.vouch.specs.Layouts.{mapOf}
 use Rattle.vouch.specs.Pages.{carried}
-use Rattle.vouch.proofs.Epochs.{held-laid, held-rises, laid-good}
+use Rattle.history.proofs.Epochs.{held-laid, held-rises, laid-good}
 use Rattle.vouch.proofs.UnitIs.{UnitIs, WriteDone, TrimDone, PruneDone, SealDone, ReadDone}
 use Rattle.vouch.proofs.UnitIs.WriteDone.{did-write, was-written, no-write}
 use Rattle.vouch.proofs.UnitIs.TrimDone.{did-trim, no-trim}
@@ -53,7 +51,7 @@ use Rattle.vouch.proofs.Reading.{read-does}
 use Rattle.vouch.proofs.Offers.{OfferDone, offer-does, fetch-does}
 use Rattle.vouch.proofs.Offers.OfferDone.{installed, not-installed}
 use Rattle.vouch.proofs.GoodMap.{epoch-of}
-use Rattle.vouch.proofs.Lists.{set-all}
+use Rattle.rule.proofs.Lists.{set-all, unit-range, unit-runs}
 use Rattle.vouch.proofs.Meaning.{AskOk, Means}
 use Rattle.vouch.proofs.Meaning.AskOk.{fetch-ok, token-ok, write-ok, look-ok, trim-ok, prune-ok, seal-ok, offer-ok, start-ok}
 use Rattle.vouch.proofs.Meaning.Means.{means-held, means-token, means-wrote, means-written, means-no-write, means-shown, means-trimmed, means-unwritten, means-no-read, means-cut, means-no-cut, means-pruned, means-no-prune, means-edge, means-no-seal, means-installed, means-no-install, means-start}
@@ -77,13 +75,6 @@ pub record ServedOk (h : History) (w : World) (a : Ask) (g : PageValue) (k : Lay
   pub quiet : (n : Note) → Noted now n → Noted h n
 
 -- ---- a unit that is asked is one of the eight
-
-pub unit-range : (u : ℕ) → isUnit u ≡ true → (1 ≤ u) × (u ≤ 8)
-unit-range u e = let both = and-both (leb 1 u) (leb u 8) e in (leb-true 1 u (both .0), leb-true u 8 (both .1))
-
-pub unit-runs : (a b : Bool) → not (a && b) ≡ false → a ≡ true
-unit-runs true b e = refl
-unit-runs false b e = absurd (false-true (sym e))
 
 -- ---- units
 

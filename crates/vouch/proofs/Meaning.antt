@@ -24,16 +24,16 @@ use Rattle.client.specs.Message.{noPage}
 use Rattle.client.specs.declared.state.Change.{Change}
 use Rattle.client.specs.Way.{dropsOf}
 use Rattle.layout.specs.Plan.{plannedFor}
-use Rattle.yard.specs.Serve.{bare}
-use Rattle.vouch.specs.Words.{UnitNo, Pos, Epoch, Page, Answer, Before, Last}
-use Rattle.vouch.specs.Words.Answer.{shows, trimmed, unwritten}
-use Rattle.vouch.specs.Maps.{Map, Has, Serves}
-use Rattle.vouch.specs.History.{History, _⊑_, Noted, PageNoted, Laid, Mark, MarkedBy, held}
-use Rattle.vouch.specs.History.Note.{append, trimAt, pruneTo}
-use Rattle.vouch.specs.History.Mark.{page, gone}
-use Rattle.vouch.specs.Events.{Takes}
-use Rattle.vouch.specs.Edges.{SealAnswer}
-use Rattle.vouch.specs.Safety.{Answers, Settled, Read as ReadAt}
+use Rattle.rule.specs.Serve.{bare}
+use Rattle.history.specs.Words.{UnitNo, Pos, Epoch, Page, Answer, Before, Last}
+use Rattle.history.specs.Words.Answer.{shows, trimmed, unwritten}
+use Rattle.history.specs.Maps.{Map, Has, Serves}
+use Rattle.history.specs.History.{History, _⊑_, Noted, PageNoted, Laid, Mark, MarkedBy, held}
+use Rattle.history.specs.History.Note.{append, trimAt, pruneTo}
+use Rattle.history.specs.History.Mark.{page, gone}
+use Rattle.history.specs.Events.{Takes}
+use Rattle.history.specs.Edges.{SealAnswer}
+use Rattle.history.specs.Safety.{Answers, Settled, Read as ReadAt}
 use Rattle.vouch.specs.Layouts.{mapOf}
 use Rattle.vouch.specs.Pages.{carried}
 use Rattle.vouch.specs.Runs.{Returns}

@@ -15,15 +15,15 @@ use Rattle.layout.proofs.Holding.{installed as offered-installed, stays, offer-
 use Rattle.client.specs.declared.message.Reply.{Reply}
 use Rattle.client.specs.declared.message.Reply.the-variants.{Held, Fine, Refused}
 use Rattle.client.specs.Message.{noPage}
-use Rattle.yard.specs.Serve.{saying, fetching}
-use Rattle.vouch.specs.Words.{UnitNo, Pos}
-use Rattle.vouch.specs.Maps.{Map, Has, Successor}
-use Rattle.vouch.specs.History.{History, Laid, held}
-use Rattle.vouch.specs.Events.{MayInstall, Run}
-use Rattle.vouch.specs.Edges.{SealAnswer}
+use Rattle.rule.specs.Serve.{saying, fetching}
+use Rattle.history.specs.Words.{UnitNo, Pos}
+use Rattle.history.specs.Maps.{Map, Has, Successor}
+use Rattle.history.specs.History.{History, Laid, held}
+use Rattle.history.specs.Events.{MayInstall, Run}
+use Rattle.history.specs.Edges.{SealAnswer}
 use Rattle.vouch.specs.Layouts.{mapOf}
-use Rattle.vouch.proofs.Epochs.{held-laid, laid-one}
-use Rattle.vouch.proofs.Edges.{may-install}
+use Rattle.history.proofs.Epochs.{held-laid, laid-one}
+use Rattle.history.proofs.Edges.{may-install}
 use Rattle.vouch.proofs.GoodMap.{good-map, epoch-of, lawful-successor, source-itself}
 
 -- ---- what a reorganise sees to before it offers

@@ -18,10 +18,10 @@ use Rattle.layout.proofs.Values.{value-of-good}
 use Rattle.layout.proofs.Planning.{Reorganises, reorganise-fine}
 use Rattle.layout.proofs.Plans.{plan-back, plan-last}
 use Rattle.layout.proofs.Settling.{startedPlan, plan-started}
-use Rattle.vouch.specs.Words.{UnitNo, Pos, Epoch, _∈_}
-use Rattle.vouch.specs.Maps.{Has}
-use Rattle.vouch.specs.History.{History, Laid}
-use Rattle.vouch.specs.Edges.{SealAnswer}
+use Rattle.history.specs.Words.{UnitNo, Pos, Epoch, _∈_}
+use Rattle.history.specs.Maps.{Has}
+use Rattle.history.specs.History.{History, Laid}
+use Rattle.history.specs.Edges.{SealAnswer}
 use Rattle.vouch.specs.Layouts.{mapOf}
 use Rattle.vouch.proofs.Offers.{OfferOk}
 

@@ -21,13 +21,13 @@ use Rattle.unit.proofs.Marks.ReadTells.{read-position as tells-position, read-s
 use Rattle.client.specs.declared.message.Reply.the-variants.{Shown, Refused}
 use Rattle.client.specs.declared.message.Response.{Response}
 use Rattle.client.specs.Message.{pageLimit}
-use Rattle.yard.specs.Serve.{bare, kindOf, bytesOf}
-use Rattle.yard.specs.Serve.{pageOf as slotPage, shown as reading}
-use Rattle.vouch.specs.Words.{UnitNo, Epoch}
-use Rattle.vouch.specs.Words.Answer.{shows, trimmed, unwritten}
-use Rattle.vouch.specs.Maps.{Map, Has}
-use Rattle.vouch.specs.History.{History, Laid}
-use Rattle.vouch.specs.Safety.{Answers}
+use Rattle.rule.specs.Serve.{bare, kindOf, bytesOf}
+use Rattle.rule.specs.Serve.{pageOf as slotPage, shown as reading}
+use Rattle.history.specs.Words.{UnitNo, Epoch}
+use Rattle.history.specs.Words.Answer.{shows, trimmed, unwritten}
+use Rattle.history.specs.Maps.{Map, Has}
+use Rattle.history.specs.History.{History, Laid}
+use Rattle.history.specs.Safety.{Answers}
 use Rattle.vouch.specs.Pages.{pageOf, carried}
 use Rattle.vouch.proofs.UnitIs.{answerOf, UnitIs, ReadDone}
 use Rattle.vouch.proofs.UnitIs.ReadDone.{read-page, read-trimmed, read-unwritten, no-read}

@@ -22,10 +22,10 @@ use Rattle.client.specs.declared.message.Ask.the-variants as ask
 use Rattle.client.specs.Client.{inStage}
 use Rattle.client.specs.Turn.{rests, ends, otherwise}
 use Rattle.client.specs.Way.{unitAbove}
-use Rattle.vouch.specs.Words.{UnitNo}
-use Rattle.vouch.specs.Maps.{Has}
-use Rattle.vouch.specs.History.{History}
-use Rattle.vouch.specs.Events.{Run}
+use Rattle.history.specs.Words.{UnitNo}
+use Rattle.history.specs.Maps.{Has}
+use Rattle.history.specs.History.{History}
+use Rattle.history.specs.Events.{Run}
 use Rattle.vouch.specs.Layouts.{mapOf}
 use Rattle.vouch.proofs.GoodMap.{unit-within}
 use Rattle.vouch.proofs.Walks.{next-next, next-last}
@@ -34,9 +34,9 @@ use Rattle.client.specs.Message.{offering}
 use Rattle.client.specs.Client.{planning}
 use Rattle.client.specs.Way.{dropsOf, planFor, startFor}
 use Rattle.client.specs.Reorganise.{seals, offers, allSealed, sealsOn, reorganises, larger, sealedAt, onSealed, starts, onOffered, notStarted, onStarted}
-use Rattle.vouch.specs.History.{held}
-use Rattle.vouch.specs.Edges.{SealAnswer}
-use Rattle.vouch.proofs.Epochs.{laid-by}
+use Rattle.history.specs.History.{held}
+use Rattle.history.specs.Edges.{SealAnswer}
+use Rattle.history.proofs.Epochs.{laid-by}
 use Rattle.vouch.proofs.GoodMap.{epoch-small}
 use Rattle.vouch.proofs.Offers.{OfferOk}
 use Rattle.vouch.proofs.Plans.{planned-offer, edge-wider}

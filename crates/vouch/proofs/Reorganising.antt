@@ -32,8 +32,8 @@ use Rattle.client.specs.Turn.{numbered, next, sends}
 use Rattle.client.specs.Way.{unitAbove}
 use Rattle.client.specs.Reorganise.{seals, sealsOn, larger, sealedAt, onSealed}
 use Rattle.client.specs.Take.{answered}
-use Rattle.yard.specs.World.{World, isUnit, running}
-use Rattle.yard.specs.Serve.{bare, atUnit, serve}
+use Rattle.rule.specs.World.{World, isUnit, running}
+use Rattle.rule.specs.Serve.{bare, atUnit, serve}
 use Rattle.vouch.specs.LastSentence.{exchanges, Conditions}
 use Rattle.vouch.proofs.Exchange.{pass, hold, not-so, waiting, as-turn, sends-on, Asked, exchange-on}
 use Rattle.vouch.proofs.Forward.{Sound, offered, offered-lay, units, units-work, Walk, UnitsOn, seal-tells, seal-on}

@@ -16,10 +16,10 @@ use Rattle.client.specs.declared.state.Client.{Client}
 use Rattle.client.specs.Message.{noPage}
 use Rattle.client.specs.Turn.{ends}
 use Rattle.client.specs.Way.{headFor, tailFor}
-use Rattle.vouch.specs.Words.{Last}
-use Rattle.vouch.specs.History.{History}
-use Rattle.vouch.specs.History.Mark.{page, gone}
-use Rattle.vouch.specs.Events.{Run}
+use Rattle.history.specs.Words.{Last}
+use Rattle.history.specs.History.{History}
+use Rattle.history.specs.History.Mark.{page, gone}
+use Rattle.history.specs.Events.{Run}
 use Rattle.vouch.specs.Pages.{carried}
 use Rattle.vouch.proofs.GoodMap.{unit-within}
 use Rattle.vouch.proofs.Walks.{tail-last}

@@ -34,10 +34,10 @@ use Rattle.client.specs.Begin.{withJob}
 use Rattle.client.specs.Read.{reads, onRead}
 use Rattle.client.specs.Way.{tailFor}
 use Rattle.client.specs.Take.{goesOn, answered}
-use Rattle.yard.specs.World.{World, running, clientAt, unitAt, letterAt, blankLetter}
-use Rattle.yard.specs.Serve.{bare, pageOf, serve}
-use Rattle.yard.specs.Serve.{shown as reading-of}
-use Rattle.yard.specs.Steps.{Done, fine, request, ended, answerTo}
+use Rattle.rule.specs.World.{World, running, clientAt, unitAt, letterAt, blankLetter}
+use Rattle.rule.specs.Serve.{bare, pageOf, serve}
+use Rattle.rule.specs.Serve.{shown as reading-of}
+use Rattle.rule.specs.Steps.{Done, fine, request, ended, answerTo}
 use Rattle.vouch.specs.Runs.{result}
 use Rattle.vouch.specs.LastSentence.{Goes, begin, deliver, exchanges, reading}
 use Rattle.vouch.proofs.Walks.{units-at}

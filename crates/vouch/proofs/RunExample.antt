@@ -25,12 +25,12 @@ use Rattle.client.specs.Read.{reads, onRead}
 use Rattle.client.specs.Job.{dataPage}
 use Rattle.client.specs.Begin.{beginAnswer, withJob, beginTurn}
 use Rattle.client.specs.Take.{goesOn, holds, onFetched, answered, awaited, takes}
-use Rattle.yard.specs.declared.state.Step.the-variants.{Begin, Deliver}
-use Rattle.yard.specs.Steps.{without, turned, beginNumber, begins, served, taken, delivered, delivers, step}
-use Rattle.yard.specs.Serve.{kindOf, bytesOf, pageOf, shown, asking, fetching, serve}
-use Rattle.yard.specs.Fresh.{freshUnits, freshWorld}
-use Rattle.vouch.specs.Words.Page.{junk, bytes}
-use Rattle.vouch.specs.Words.Answer.{shows}
+use Rattle.rule.specs.declared.Step.the-variants.{Begin, Deliver}
+use Rattle.rule.specs.Steps.{without, turned, beginNumber, begins, served, taken, delivered, delivers, step}
+use Rattle.rule.specs.Serve.{kindOf, bytesOf, pageOf, shown, asking, fetching, serve}
+use Rattle.rule.specs.Fresh.{freshUnits, freshWorld}
+use Rattle.history.specs.Words.Page.{junk, bytes}
+use Rattle.history.specs.Words.Answer.{shows}
 use Rattle.vouch.specs.Runs.{Move, Moves, world, AppendDone, ReadEnds}
 use Rattle.vouch.specs.Runs.Moves.{none, _▸_}
 use Rattle.vouch.specs.Runs.Returns.{returns-page}

@@ -11,15 +11,15 @@ use Rattle.unit.proofs.Answers.{by-answer}
 use Rattle.unit.proofs.Lookup.{edge-limit}
 use Rattle.unit.proofs.Lasting.{seal-finds, seal-lasts, seal-edge}
 use Rattle.unit.proofs.Shown.{seal-shown, seal-refused}
-use Rattle.yard.specs.Serve.{edged}
-use Rattle.vouch.specs.Words.{UnitNo, Epoch}
-use Rattle.vouch.specs.History.{History, held}
-use Rattle.vouch.specs.History.Event.{seal}
-use Rattle.vouch.specs.History.History.{_▹_}
-use Rattle.vouch.specs.Edges.{SealAnswer}
-use Rattle.vouch.specs.Safety.{Answers}
-use Rattle.vouch.proofs.Units.{seal-touches, answers-on, sealed-now}
-use Rattle.vouch.proofs.Edges.{seal-answers}
+use Rattle.rule.specs.Serve.{edged}
+use Rattle.history.specs.Words.{UnitNo, Epoch}
+use Rattle.history.specs.History.{History, held}
+use Rattle.history.specs.History.Event.{seal}
+use Rattle.history.specs.History.History.{_▹_}
+use Rattle.history.specs.Edges.{SealAnswer}
+use Rattle.history.specs.Safety.{Answers}
+use Rattle.history.proofs.Units.{seal-touches, answers-on, sealed-now}
+use Rattle.history.proofs.Edges.{seal-answers}
 use Rattle.vouch.proofs.UnitIs.{answerOf, UnitIs, SealDone}
 use Rattle.vouch.proofs.UnitIs.SealDone.{did-seal, no-seal}
 use Rattle.vouch.proofs.Untouched.{edge-is}

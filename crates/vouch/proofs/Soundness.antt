@@ -14,23 +14,23 @@ use Rattle.client.specs.declared.message.Ask.the-variants.{Fetch, Token, Write,
 use Rattle.client.specs.declared.message.Page.{Page as PageValue}
 use Rattle.client.specs.declared.state.Job.{Job}
 use Rattle.client.specs.Take.{takes}
-use Rattle.yard.specs.declared.letter.Body.{Body}
-use Rattle.yard.specs.declared.letter.Body.the-variants.{Blank, Asks, Answers}
-use Rattle.yard.specs.declared.letter.Letter.{Letter}
-use Rattle.yard.specs.declared.state.Step.{Step}
-use Rattle.yard.specs.declared.state.Step.the-variants.{Begin, Deliver, Drop, Stop, Restart, GiveUp, Forget}
-use Rattle.yard.specs.World.{World, isClient, running, clientAt, unitAt, letterAt}
-use Rattle.yard.specs.Serve.{serve, asking, offeringTo}
-use Rattle.yard.specs.Steps.{Done, refused, fine, keeping, tooMany, withLetters, sentBy, turned, beginNumber, begins, answers, served, taken, unbrought, brought, delivered, delivers, drops, stops, restartNumber, restarts, givesUp, forgets, response, step}
-use Rattle.yard.specs.Fresh.{freshWorld}
-use Rattle.vouch.specs.Words.{UnitNo}
-use Rattle.vouch.specs.History.{History, held}
-use Rattle.vouch.specs.Events.{Run}
-use Rattle.vouch.specs.Maps.{Map}
+use Rattle.rule.specs.declared.Body.{Body}
+use Rattle.rule.specs.declared.Body.the-variants.{Blank, Asks, Answers}
+use Rattle.rule.specs.declared.Letter.{Letter}
+use Rattle.rule.specs.declared.Step.{Step}
+use Rattle.rule.specs.declared.Step.the-variants.{Begin, Deliver, Drop, Stop, Restart, GiveUp, Forget}
+use Rattle.rule.specs.World.{World, isClient, running, clientAt, unitAt, letterAt}
+use Rattle.rule.specs.Serve.{serve, asking, offeringTo}
+use Rattle.rule.specs.Steps.{Done, refused, fine, keeping, tooMany, withLetters, sentBy, turned, beginNumber, begins, answers, served, taken, unbrought, brought, delivered, delivers, drops, stops, restartNumber, restarts, givesUp, forgets, response, step}
+use Rattle.rule.specs.Fresh.{freshWorld}
+use Rattle.history.specs.Words.{UnitNo}
+use Rattle.history.specs.History.{History, held}
+use Rattle.history.specs.Events.{Run}
+use Rattle.history.specs.Maps.{Map}
 use Rattle.vouch.specs.Layouts.{mapOf}
 use Rattle.vouch.specs.Runs.{Moves, world}
 use Rattle.vouch.specs.Runs.Moves.{none, _▸_}
-use Rattle.vouch.proofs.Epochs.{sealed-to}
+use Rattle.history.proofs.Epochs.{sealed-to}
 use Rattle.vouch.proofs.UnitIs.{UnitIs}
 use Rattle.vouch.proofs.Forward.{Sound}
 

@@ -18,18 +18,18 @@ use Rattle.client.specs.declared.state.Client.{Client}
 use Rattle.client.specs.Client.{busy, idle, lastLife}
 use Rattle.client.specs.Turn.{rests, ends}
 use Rattle.client.specs.Begin.{giveUp, restartAnswer, restarted}
-use Rattle.yard.specs.declared.state.Step.{Step}
-use Rattle.yard.specs.declared.state.Step.the-variants.{Begin, Deliver, Drop, Stop, Restart, GiveUp, Forget}
-use Rattle.yard.specs.World.{World, isClient, clientAt, running}
-use Rattle.yard.specs.Steps.{refused, fine, without, withLetters, withClient, turned, drops, withStopped, stops, restartNumber, restarts, givesUp, forgets, step}
-use Rattle.vouch.specs.History.{History, held}
+use Rattle.rule.specs.declared.Step.{Step}
+use Rattle.rule.specs.declared.Step.the-variants.{Begin, Deliver, Drop, Stop, Restart, GiveUp, Forget}
+use Rattle.rule.specs.World.{World, isClient, clientAt, running}
+use Rattle.rule.specs.Steps.{refused, fine, without, withLetters, withClient, turned, drops, withStopped, stops, restartNumber, restarts, givesUp, forgets, step}
+use Rattle.history.specs.History.{History, held}
 use Rattle.vouch.specs.Runs.{Move, Moves, world}
 use Rattle.vouch.specs.Runs.Moves.{_▸_}
-use Rattle.vouch.proofs.Lists.{all-without}
+use Rattle.rule.proofs.Lists.{all-without, client-range}
 use Rattle.vouch.proofs.Machines.{Machines}
 use Rattle.vouch.proofs.Turns.{TurnOk, quiet-ok, ends-ok}
 use Rattle.vouch.proofs.Turns.TurnOk.{rests-ok}
-use Rattle.vouch.proofs.Together.{NotLater, Good, Next, client-range}
+use Rattle.vouch.proofs.Together.{NotLater, Good, Next}
 use Rattle.vouch.proofs.Together.NotLater.{older-life, this-life}
 use Rattle.vouch.proofs.Turning.{later-letters, silent, refused-ok, with-letters, same-client, new-client, idle-newer, turned-ok}
 use Rattle.vouch.proofs.Asking.{begin-ok}

@@ -31,18 +31,18 @@ use Rattle.client.specs.Turn.{outcomeOf, rests, over, ends, sent, sends, otherw
 use Rattle.client.specs.Way.{tailFor}
 use Rattle.client.specs.Read.{reads, onRead}
 use Rattle.client.specs.Take.{goesOn, holds, onFetched, answered, takes}
-use Rattle.yard.specs.declared.letter.Letter.{Letter}
-use Rattle.yard.specs.World.{World, isClient, clientAt, letterAt}
-use Rattle.yard.specs.Serve.{bare}
+use Rattle.rule.specs.declared.Letter.{Letter}
+use Rattle.rule.specs.World.{World, isClient, clientAt, letterAt}
+use Rattle.rule.specs.Serve.{bare}
 use Rattle.client.specs.declared.state.Job.{Job}
 use Rattle.client.specs.Begin.{beginAnswer, withJob, beginTurn, giveUp}
-use Rattle.yard.specs.declared.letter.Body.the-variants.{Answers}
-use Rattle.yard.specs.declared.state.Step.{Step}
-use Rattle.yard.specs.declared.state.Step.the-variants.{Deliver}
-use Rattle.yard.specs.Steps.{Done, refused, ended, turned, beginNumber, begins, response, givesUp, step}
-use Rattle.vouch.specs.Words.{Answer}
-use Rattle.vouch.specs.Words.Answer.{shows, trimmed, unwritten}
-use Rattle.vouch.specs.History.{History}
+use Rattle.rule.specs.declared.Body.the-variants.{Answers}
+use Rattle.rule.specs.declared.Step.{Step}
+use Rattle.rule.specs.declared.Step.the-variants.{Deliver}
+use Rattle.rule.specs.Steps.{Done, refused, ended, turned, beginNumber, begins, response, givesUp, step}
+use Rattle.history.specs.Words.{Answer}
+use Rattle.history.specs.Words.Answer.{shows, trimmed, unwritten}
+use Rattle.history.specs.History.{History}
 use Rattle.vouch.specs.Pages.{carried}
 use Rattle.vouch.specs.Runs.{Returns}
 use Rattle.vouch.specs.Runs.Returns.{returns-page, returns-trimmed, returns-unwritten}

@@ -4,10 +4,7 @@ use mathlib.Core.Path.{_≡_, refl}
 use mathlib.Core.Bool.{true}
 use mathlib.Core.List.{List}
 use Prim.Native.Nat.{ℕ, _-_, _≤_, _<_}
-use lib.Dec.{leb}
 use lib.ListN.{length, getD, set}
-use borrow.Author.Tests.{leb-true}
-use Rattle.num.proofs.Tests.{and-both}
 use Rattle.layout.specs.declared.Layout.{Layout}
 use Rattle.client.specs.declared.message.Page.{Page as PageValue}
 use Rattle.client.specs.declared.message.Ask.{Ask}
@@ -15,20 +12,20 @@ use Rattle.client.specs.declared.message.Reply.{Reply}
 use Rattle.client.specs.declared.message.Stamp.{Stamp}
 use Rattle.client.specs.declared.state.Client.{Client}
 use Rattle.client.specs.Client.{busy, fresh}
-use Rattle.yard.specs.declared.letter.Letter.{Letter}
-use Rattle.yard.specs.declared.letter.Body.{Body}
-use Rattle.yard.specs.declared.letter.Body.the-variants.{Blank, Asks, Answers}
-use Rattle.yard.specs.World.{World, isClient, clientAt, letterAt, blankLetter}
-use Rattle.yard.specs.Serve.{serve}
-use Rattle.yard.specs.Steps.{Done, answerTo, response}
-use Rattle.vouch.specs.History.{Note, History, _⊑_, Noted}
-use Rattle.vouch.specs.Events.{Run}
+use Rattle.rule.specs.declared.Letter.{Letter}
+use Rattle.rule.specs.declared.Body.{Body}
+use Rattle.rule.specs.declared.Body.the-variants.{Blank, Asks, Answers}
+use Rattle.rule.specs.World.{World, isClient, clientAt, letterAt, blankLetter}
+use Rattle.rule.specs.Serve.{serve}
+use Rattle.rule.specs.Steps.{Done, answerTo, response}
+use Rattle.history.specs.History.{Note, History, _⊑_, Noted}
+use Rattle.history.specs.Events.{Run}
 use Rattle.vouch.specs.Runs.{Move, Moves, _≼_, world, Asked, Delivers}
 use Rattle.vouch.specs.Runs.Moves.{_▸_}
 use Rattle.vouch.specs.Runs._≼_.{all-of, part-of}
 use Rattle.vouch.proofs.Meaning.{AskOk, Means, StageOk, WaitsFor, OutcomeOk}
 use Rattle.vouch.proofs.Lasting.{ask-on, means-on, stage-on}
-use Rattle.vouch.proofs.Lists.{All, all-map, all-at, set-all}
+use Rattle.rule.proofs.Lists.{All, all-map, all-at, set-all, client-range}
 use Rattle.vouch.proofs.Machines.{Machines}
 
 -- ---- letters
@@ -112,9 +109,6 @@ letter-there {l} {ms} {h} {w} good i filled =
     go (other e) = absurd (filled e)
 
 -- ---- a move more, an event more
-
-pub client-range : (c : ℕ) → isClient c ≡ true → (1 ≤ c) × (c ≤ 4)
-client-range c e = let both = and-both (leb 1 c) (leb c 4) e in (leb-true 1 c (both .0), leb-true c 4 (both .1))
 
 pub within-trans : {ms₁ ms₂ ms₃ : Moves} → ms₁ ≼ ms₂ → ms₂ ≼ ms₃ → ms₁ ≼ ms₃
 within-trans part all-of = part

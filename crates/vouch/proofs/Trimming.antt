@@ -13,19 +13,19 @@ use Rattle.unit.specs.Unit.{trimSays, trimUnit, pruneSays, pruneUnit}
 use Rattle.unit.proofs.Answers.{by-answer}
 use Rattle.unit.proofs.Lasting.{Lasts, trim-finds, trim-lasts, prune-finds, prune-lasts}
 use Rattle.unit.proofs.Shown.{gone as goneSlot, shown, trim-refused, trim-here, trim-other, prune-refused, prune-here, prune-other}
-use Rattle.yard.specs.Serve.{saying}
-use Rattle.vouch.specs.Words.{UnitNo, Pos, Epoch, Before}
-use Rattle.vouch.specs.Words.Answer.{trimmed}
-use Rattle.vouch.specs.Maps.{Map, Has}
-use Rattle.vouch.specs.History.{History, Noted, Laid, MarkedBy, sealed}
-use Rattle.vouch.specs.History.Note.{trimAt, pruneTo}
-use Rattle.vouch.specs.History.Event.{trim, prune}
-use Rattle.vouch.specs.History.History.{_▹_}
-use Rattle.vouch.specs.History.Mark.{gone}
-use Rattle.vouch.specs.History.Marked.{marked-trim, marked-prune}
-use Rattle.vouch.specs.Safety.{Answers}
-use Rattle.vouch.proofs.Moments.{longer}
-use Rattle.vouch.proofs.Units.{trim-touches, prune-touches, answers-on, trim-shows, prune-shows}
+use Rattle.rule.specs.Serve.{saying}
+use Rattle.history.specs.Words.{UnitNo, Pos, Epoch, Before}
+use Rattle.history.specs.Words.Answer.{trimmed}
+use Rattle.history.specs.Maps.{Map, Has}
+use Rattle.history.specs.History.{History, Noted, Laid, MarkedBy, sealed}
+use Rattle.history.specs.History.Note.{trimAt, pruneTo}
+use Rattle.history.specs.History.Event.{trim, prune}
+use Rattle.history.specs.History.History.{_▹_}
+use Rattle.history.specs.History.Mark.{gone}
+use Rattle.history.specs.History.Marked.{marked-trim, marked-prune}
+use Rattle.history.specs.Safety.{Answers}
+use Rattle.history.proofs.Moments.{longer}
+use Rattle.history.proofs.Units.{trim-touches, prune-touches, answers-on, trim-shows, prune-shows}
 use Rattle.vouch.proofs.UnitIs.{answerOf, UnitIs, TrimDone, PruneDone}
 use Rattle.vouch.proofs.UnitIs.TrimDone.{did-trim, no-trim}
 use Rattle.vouch.proofs.UnitIs.PruneDone.{did-prune, no-prune}

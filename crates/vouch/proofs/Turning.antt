@@ -16,16 +16,16 @@ use Rattle.client.specs.declared.state.Client.{Client}
 use Rattle.client.specs.declared.turn.Turn.{Turn}
 use Rattle.client.specs.Client.{fresh, idle}
 use Rattle.client.specs.Turn.{outcomeOf, rests, over, numbered, next, sent}
-use Rattle.yard.specs.declared.letter.Letter.{Letter}
-use Rattle.yard.specs.World.{World, isClient, clientAt}
-use Rattle.yard.specs.Steps.{Done, refused, withLetters, withClient, request, turned}
-use Rattle.vouch.specs.History.{History}
-use Rattle.vouch.specs.History._⊑_.{here}
+use Rattle.rule.specs.declared.Letter.{Letter}
+use Rattle.rule.specs.World.{World, isClient, clientAt}
+use Rattle.rule.specs.Steps.{Done, refused, withLetters, withClient, request, turned}
+use Rattle.history.specs.History.{History}
+use Rattle.history.specs.History._⊑_.{here}
 use Rattle.vouch.specs.Runs.{Move, Moves}
 use Rattle.vouch.specs.Runs.Moves.{_▸_}
 use Rattle.vouch.specs.Runs._≼_.{all-of, part-of}
 use Rattle.vouch.proofs.Meaning.{AskOk, StageOk, WaitsFor, OutcomeOk}
-use Rattle.vouch.proofs.Lists.{All, all-end, all-same, set-all, set-here}
+use Rattle.rule.proofs.Lists.{All, all-end, all-same, set-all, set-here}
 use Rattle.vouch.proofs.Machines.{Machines}
 use Rattle.vouch.proofs.Turns.{TurnOk, stage-numbered}
 use Rattle.vouch.proofs.Turns.TurnOk.{rests-ok, sent-ok, over-ok}

@@ -20,8 +20,8 @@ use Rattle.client.specs.declared.turn.Turn.{Turn}
 use Rattle.client.specs.Message.{noPage}
 use Rattle.client.specs.Client.{busy, lastNumber}
 use Rattle.client.specs.Turn.{outcomeOf, rests, over, ends, numbered, sent, sends, otherwise}
-use Rattle.vouch.specs.Words.{Answer}
-use Rattle.vouch.specs.History.{History}
+use Rattle.history.specs.Words.{Answer}
+use Rattle.history.specs.History.{History}
 use Rattle.vouch.specs.Runs.{Returns}
 use Rattle.vouch.specs.Runs.Returns.{returns-page, returns-trimmed, returns-unwritten}
 use Rattle.vouch.proofs.Meaning.{AskOk, StageOk, WaitsFor, OutcomeOk}

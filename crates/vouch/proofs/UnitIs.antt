@@ -15,17 +15,17 @@ use Rattle.client.specs.declared.message.Page.{Page as PageValue}
 use Rattle.client.specs.declared.message.Reply.{Reply}
 use Rattle.client.specs.declared.message.Reply.the-variants.{Fine, Shown, Edge, Refused}
 use Rattle.client.specs.declared.message.Response.{Response}
-use Rattle.yard.specs.Serve.{bare}
-use Rattle.vouch.specs.Words.{UnitNo, Pos, Epoch, Page, Answer, Before}
-use Rattle.vouch.specs.Words.Answer.{shows, trimmed, unwritten}
-use Rattle.vouch.specs.Maps.{Map}
-use Rattle.vouch.specs.History.{History, MarkedBy, sealed}
-use Rattle.vouch.specs.History.Event.{write, trim, prune, seal}
-use Rattle.vouch.specs.History.History.{_▹_}
-use Rattle.vouch.specs.History.Mark.{page}
-use Rattle.vouch.specs.Events.{Takes, MayWrite, MayTrim, MayPrune, MaySeal}
-use Rattle.vouch.specs.Edges.{SealAnswer}
-use Rattle.vouch.specs.Safety.{Answers}
+use Rattle.rule.specs.Serve.{bare}
+use Rattle.history.specs.Words.{UnitNo, Pos, Epoch, Page, Answer, Before}
+use Rattle.history.specs.Words.Answer.{shows, trimmed, unwritten}
+use Rattle.history.specs.Maps.{Map}
+use Rattle.history.specs.History.{History, MarkedBy, sealed}
+use Rattle.history.specs.History.Event.{write, trim, prune, seal}
+use Rattle.history.specs.History.History.{_▹_}
+use Rattle.history.specs.History.Mark.{page}
+use Rattle.history.specs.Events.{Takes, MayWrite, MayTrim, MayPrune, MaySeal}
+use Rattle.history.specs.Edges.{SealAnswer}
+use Rattle.history.specs.Safety.{Answers}
 use Rattle.vouch.specs.Pages.{pageOf, carried}
 
 -- what a slot answers to a read: "trimmed" of kind 3, "unwritten" where there is none (kind 0), and otherwise its page

@@ -7,17 +7,17 @@ use Rattle.unit.specs.State.{Slot, State, nothing, edge}
 use Rattle.unit.specs.Unit.{freshUnit}
 use Rattle.unit.proofs.Keeping.{fresh-valid}
 use Rattle.unit.proofs.Shown.{shown-fresh, shown-edge}
-use Rattle.vouch.specs.Words.{UnitNo, Pos, Epoch, Page}
-use Rattle.vouch.specs.Words.Answer.{unwritten}
-use Rattle.vouch.specs.Maps.{Map}
-use Rattle.vouch.specs.History.{Note, Event, History, Unmarked, sealed}
-use Rattle.vouch.specs.History.Event.{ask, write, trim, prune, seal, install}
-use Rattle.vouch.specs.History.History.{fresh, _▹_}
-use Rattle.vouch.specs.Edges.{Edge}
-use Rattle.vouch.specs.Safety.{Answers}
-use Rattle.vouch.specs.Safety.Answers.{has-none}
-use Rattle.vouch.proofs.Marks.{no-mark}
-use Rattle.vouch.proofs.Units.{Touches, write-touches, trim-touches, prune-touches, ask-touches, seal-touches, install-touches, answers-on, sealed-other}
+use Rattle.history.specs.Words.{UnitNo, Pos, Epoch, Page}
+use Rattle.history.specs.Words.Answer.{unwritten}
+use Rattle.history.specs.Maps.{Map}
+use Rattle.history.specs.History.{Note, Event, History, Unmarked, sealed}
+use Rattle.history.specs.History.Event.{ask, write, trim, prune, seal, install}
+use Rattle.history.specs.History.History.{fresh, _▹_}
+use Rattle.history.specs.Edges.{Edge}
+use Rattle.history.specs.Safety.{Answers}
+use Rattle.history.specs.Safety.Answers.{has-none}
+use Rattle.history.proofs.Marks.{no-mark}
+use Rattle.history.proofs.Units.{Touches, write-touches, trim-touches, prune-touches, ask-touches, seal-touches, install-touches, answers-on, sealed-other}
 use Rattle.vouch.proofs.UnitIs.{answerOf, UnitIs}
 
 -- ---- where nothing is shown

@@ -11,19 +11,19 @@ use Rattle.layout.specs.Lay.{good}
 use Rattle.layout.specs.Value.{layOf}
 use Rattle.layout.specs.Places.{setAt, headOf, after}
 use Rattle.layout.proofs.Values.{value-of-good}
-use Rattle.vouch.specs.Words.{UnitNo, Pos, Page, Before}
-use Rattle.vouch.specs.Maps.{Map, Has, Serves, Good}
-use Rattle.vouch.specs.History.{History, Noted, PageNoted, Mark, MarkedBy}
-use Rattle.vouch.specs.History.Note.{trimAt, pruneTo}
-use Rattle.vouch.specs.History.Mark.{page, gone}
-use Rattle.vouch.specs.Safety.{Settled}
+use Rattle.history.specs.Words.{UnitNo, Pos, Page, Before}
+use Rattle.history.specs.Maps.{Map, Has, Serves, Good}
+use Rattle.history.specs.History.{History, Noted, PageNoted, Mark, MarkedBy}
+use Rattle.history.specs.History.Note.{trimAt, pruneTo}
+use Rattle.history.specs.History.Mark.{page, gone}
+use Rattle.history.specs.Safety.{Settled}
 use Rattle.vouch.specs.Layouts.{mapOf}
-use Rattle.vouch.proofs.Order.{before-in, before-less, less-before}
+use Rattle.history.proofs.Order.{before-in, before-less, less-before}
 use Rattle.vouch.proofs.GoodMap.{good-map, epoch-of}
 use Rattle.vouch.proofs.Walks.{head-serves, head-least, after-serves, after-next, after-last}
 use Rattle.vouch.proofs.Meaning.{WriteOk, TrimOk, PruneOk, LookOk, WrittenBefore, Fetched, Walking}
-use Rattle.vouch.proofs.Epochs.{laid-one}
-use Rattle.vouch.specs.Events.{Run}
+use Rattle.history.proofs.Epochs.{laid-one}
+use Rattle.history.specs.Events.{Run}
 
 module _ {h : History} {l : Layout} (fetched : Fetched h l) where
   pub is-good : good (layOf l) ≡ true

@@ -19,9 +19,9 @@ use Rattle.layout.proofs.Goods.{set-at-good, is-good-set}
 use Rattle.layout.proofs.Answered.{units-there}
 use Rattle.layout.proofs.Sets.{head-in, units-rise, above-next, above-nearest, after-nearest}
 use Rattle.layout.proofs.Sets.{after-next as after-is, head-least as head-is-least}
-use Rattle.vouch.specs.Words.{UnitNo, Pos, Last}
-use Rattle.vouch.specs.Words.Last.{last-here, last-later}
-use Rattle.vouch.specs.Maps.{Has, Serves}
+use Rattle.history.specs.Words.{UnitNo, Pos, Last}
+use Rattle.history.specs.Words.Last.{last-here, last-later}
+use Rattle.history.specs.Maps.{Has, Serves}
 use Rattle.vouch.specs.Layouts.{mapOf}
 use Rattle.vouch.proofs.GoodMap.{to-in, of-in, set-rising}
 

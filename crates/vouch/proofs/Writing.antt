@@ -18,25 +18,25 @@ use Rattle.unit.proofs.Lasting.{Lasts, write-finds, write-lasts}
 use Rattle.unit.proofs.Shown.{shown, write-refused, write-here, write-other, write-free}
 use Rattle.unit.proofs.Marks.{WriteTells, write-tells}
 use Rattle.unit.proofs.Marks.WriteTells.{write-position, write-page, write-sealed, write-trimmed, write-written, write-full, write-fine}
-use Rattle.yard.specs.Serve.{saying}
-use Rattle.vouch.specs.Words.{UnitNo, Pos, Epoch, Page, Answer, Before}
-use Rattle.vouch.specs.Words.Answer.{shows, unwritten}
-use Rattle.vouch.specs.Maps.{Map, Has}
-use Rattle.vouch.specs.History.{Event, History, PageNoted, Laid, Marked, MarkedBy, sealed}
-use Rattle.vouch.specs.History.Event.{write}
-use Rattle.vouch.specs.History.History.{_▹_}
-use Rattle.vouch.specs.History.Mark.{page}
-use Rattle.vouch.specs.History.Marked.{marked-write}
-use Rattle.vouch.specs.Events.{Takes, MayWrite, Run}
-use Rattle.vouch.specs.Safety.{Answers}
-use Rattle.vouch.specs.Safety.Answers.{has-page}
+use Rattle.rule.specs.Serve.{saying}
+use Rattle.history.specs.Words.{UnitNo, Pos, Epoch, Page, Answer, Before}
+use Rattle.history.specs.Words.Answer.{shows, unwritten}
+use Rattle.history.specs.Maps.{Map, Has}
+use Rattle.history.specs.History.{Event, History, PageNoted, Laid, Marked, MarkedBy, sealed}
+use Rattle.history.specs.History.Event.{write}
+use Rattle.history.specs.History.History.{_▹_}
+use Rattle.history.specs.History.Mark.{page}
+use Rattle.history.specs.History.Marked.{marked-write}
+use Rattle.history.specs.Events.{Takes, MayWrite, Run}
+use Rattle.history.specs.Safety.{Answers}
+use Rattle.history.specs.Safety.Answers.{has-page}
 use Rattle.vouch.specs.Pages.{pageOf}
-use Rattle.vouch.proofs.Order.{before-in, before-behind, before-less}
-use Rattle.vouch.proofs.Moments.{longer}
-use Rattle.vouch.proofs.Epochs.{laid-good}
-use Rattle.vouch.proofs.Marks.{marked-to}
-use Rattle.vouch.proofs.Chain.{written-same}
-use Rattle.vouch.proofs.Units.{Touches, write-touches, answers-on, write-shows}
+use Rattle.history.proofs.Order.{before-in, before-behind, before-less}
+use Rattle.history.proofs.Moments.{longer}
+use Rattle.history.proofs.Epochs.{laid-good}
+use Rattle.history.proofs.Marks.{marked-to}
+use Rattle.history.proofs.Chain.{written-same}
+use Rattle.history.proofs.Units.{Touches, write-touches, answers-on, write-shows}
 use Rattle.vouch.proofs.UnitIs.{answerOf, UnitIs, WriteDone}
 use Rattle.vouch.proofs.UnitIs.WriteDone.{did-write, was-written, no-write}
 use Rattle.vouch.proofs.Untouched.{not-marked}

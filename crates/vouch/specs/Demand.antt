@@ -4,10 +4,10 @@ use mathlib.Core.Path.{_≡_}
 use mathlib.Core.List.{List}
 use Prim.Native.Nat.{ℕ, _<_}
 use Rattle.layout.specs.declared.Layout.{Layout}
-use Rattle.vouch.specs.Words.{Pos, Epoch, Page, Answer}
-use Rattle.vouch.specs.Words.Page.{junk, bytes}
-use Rattle.vouch.specs.Words.Answer.{shows, trimmed}
-use Rattle.vouch.specs.History.Note.{append, fillAt, trimAt, pruneTo}
+use Rattle.history.specs.Words.{Pos, Epoch, Page, Answer}
+use Rattle.history.specs.Words.Page.{junk, bytes}
+use Rattle.history.specs.Words.Answer.{shows, trimmed}
+use Rattle.history.specs.History.Note.{append, fillAt, trimAt, pruneTo}
 use Rattle.vouch.specs.Runs.{Move, Moves, _≼_, Asked, AppendDone, ReadEnds, Reaches, InForce}
 use Rattle.vouch.specs.Runs.Moves.{_▸_}
 

@@ -21,11 +21,11 @@ use Rattle.client.specs.declared.state.Job.{Job}
 use Rattle.client.specs.declared.turn.Outcome.{Outcome}
 use Rattle.client.specs.Message.{noPage}
 use Rattle.client.specs.Client.{noChange, jobOf, reorganiseOf, dropLimit, lastNumber}
-use Rattle.yard.specs.declared.state.Step.the-variants.{Begin, Deliver}
-use Rattle.yard.specs.World.{World, isClient, running, clientAt, unitAt}
-use Rattle.yard.specs.Serve.{pageOf}
-use Rattle.yard.specs.Steps.{Done}
-use Rattle.vouch.specs.Words.{Page, Answer}
+use Rattle.rule.specs.declared.Step.the-variants.{Begin, Deliver}
+use Rattle.rule.specs.World.{World, isClient, running, clientAt, unitAt}
+use Rattle.rule.specs.Serve.{pageOf}
+use Rattle.rule.specs.Steps.{Done}
+use Rattle.history.specs.Words.{Page, Answer}
 use Rattle.vouch.specs.Runs.{Move, Moves, result, world, Returns}
 use Rattle.vouch.specs.Runs.Moves.{_▸_}
 use Rattle.vouch.specs.Demand.{Rightly}

@@ -3,7 +3,7 @@
 use Rattle.layout.specs.Lay.{Lay, unitsOf}
 use Rattle.layout.specs.Places.{setAt}
 use Rattle.layout.specs.Plan.{lastStart}
-use Rattle.vouch.specs.Maps.{Map}
+use Rattle.history.specs.Maps.{Map}
 
 abbrev pub mapOf : Lay → Map
 mapOf l = record { epoch = l .epoch; units = unitsOf (l .sets); start = lastStart (l .spans); set = setAt l }

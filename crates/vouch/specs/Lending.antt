@@ -3,8 +3,8 @@
 -- Rests on Runs and on the yard's Lent and Fresh.
 use mathlib.Core.Path.{_≡_}
 use Rattle.layout.specs.declared.Layout.{Layout}
-use Rattle.yard.specs.Lent.{Lent, Outcomes, lentNumber, seen, steps}
-use Rattle.yard.specs.Fresh.{freshLent}
+use Rattle.rule.specs.Lent.{Lent, Outcomes, lentNumber, seen, steps}
+use Rattle.rule.specs.Fresh.{freshLent}
 use Rattle.vouch.specs.Runs.{Move, Moves, result, world}
 use Rattle.vouch.specs.Runs.Moves.{none, _▸_}
 

@@ -1,10 +1,4 @@
--- Demand 3. What a reader must believe, top to bottom: the history (Words to Safety), and the yard's runs (Layouts to Demand). The laws are in proofs/.
-pub mod Words
-pub mod Maps
-pub mod History
-pub mod Events
-pub mod Edges
-pub mod Safety
+-- Demand 3. What a reader must believe, top to bottom, over the words of the history: the yard's runs, the demand, its last sentence. The laws are in proofs/.
 pub mod Layouts
 pub mod Pages
 pub mod Runs

@@ -5,9 +5,9 @@ use mathlib.Core.Bool.{cond}
 use mathlib.Core.List.{List}
 use lib.Dec.{eqb}
 use Rattle.client.specs.declared.message.Page.{Page as PageValue}
-use Rattle.yard.specs.Serve.{kindOf, bytesOf}
-use Rattle.vouch.specs.Words.{Page}
-use Rattle.vouch.specs.Words.Page.{junk, bytes}
+use Rattle.rule.specs.Serve.{kindOf, bytesOf}
+use Rattle.history.specs.Words.{Page}
+use Rattle.history.specs.Words.Page.{junk, bytes}
 
 -- kind 2 is junk, kind 1 data; no unit takes another kind
 abbrev pub pageOf : ℕ → List ℕ → Page

@@ -13,19 +13,19 @@ use Rattle.client.specs.declared.state.Work.the-variants.{Append, Read, Fill, T
 use Rattle.client.specs.declared.state.Job.{Job}
 use Rattle.client.specs.declared.turn.Outcome.{Outcome}
 use Rattle.client.specs.Client.{busy}
-use Rattle.yard.specs.declared.letter.Letter.{Letter}
-use Rattle.yard.specs.declared.letter.Body.the-variants.{Asks}
-use Rattle.yard.specs.declared.state.Step.{Step}
-use Rattle.yard.specs.declared.state.Step.the-variants.{Begin, Deliver}
-use Rattle.yard.specs.World.{World, isClient, clientAt, letterAt}
-use Rattle.yard.specs.Serve.{bytesOf, serve}
-use Rattle.yard.specs.Steps.{Done, step, answerTo}
-use Rattle.yard.specs.Fresh.{freshWorld}
-use Rattle.vouch.specs.Words.{UnitNo, Pos, Epoch, Page, Answer}
-use Rattle.vouch.specs.Words.Page.{bytes}
-use Rattle.vouch.specs.Words.Answer.{shows, trimmed, unwritten}
-use Rattle.vouch.specs.History.{Note}
-use Rattle.vouch.specs.History.Note.{append, fillAt, trimAt, pruneTo}
+use Rattle.rule.specs.declared.Letter.{Letter}
+use Rattle.rule.specs.declared.Body.the-variants.{Asks}
+use Rattle.rule.specs.declared.Step.{Step}
+use Rattle.rule.specs.declared.Step.the-variants.{Begin, Deliver}
+use Rattle.rule.specs.World.{World, isClient, clientAt, letterAt}
+use Rattle.rule.specs.Serve.{bytesOf, serve}
+use Rattle.rule.specs.Steps.{Done, step, answerTo}
+use Rattle.rule.specs.Fresh.{freshWorld}
+use Rattle.history.specs.Words.{UnitNo, Pos, Epoch, Page, Answer}
+use Rattle.history.specs.Words.Page.{bytes}
+use Rattle.history.specs.Words.Answer.{shows, trimmed, unwritten}
+use Rattle.history.specs.History.{Note}
+use Rattle.history.specs.History.Note.{append, fillAt, trimAt, pruneTo}
 use Rattle.vouch.specs.Pages.{carried}
 
 -- ---- moves

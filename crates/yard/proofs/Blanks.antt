@@ -5,9 +5,9 @@ use Prim.Native.Nat.{ℕ, zero, suc, _<_, min}
 use native.Mathlib.Nat.{not-suc-le-zero, le-of-suc-le-suc, zero-min, suc-min-suc}
 use lib.ListN.{length, set, replicate}
 use native.Mathlib.Omega.{arith}
-use Rattle.yard.specs.World.{blankLetter as blank}
+use Rattle.rule.specs.World.{blankLetter as blank}
 use Rattle.yard.specs.Bag.{blanked}
-use Rattle.yard.specs.declared.letter.Letter.{Letter}
+use Rattle.rule.specs.declared.Letter.{Letter}
 
 pub blanked-long : (ls : List Letter) (n : ℕ) → length (blanked ls n) ≡ length ls
 unfolding blanked

@@ -21,14 +21,14 @@ use Rattle.client.specs.declared.message.Stamp.{Stamp}
 use Rattle.client.specs.declared.turn.Turn.{Turn}
 use Rattle.client.specs.Client.{fresh}
 use Rattle.client.specs.Take.{takes}
-use Rattle.yard.specs.declared.letter.Body.the-variants.{Blank, Asks, Answers}
-use Rattle.yard.specs.declared.letter.Letter.{Letter}
-use Rattle.yard.specs.declared.state.Yard.{Yard}
+use Rattle.rule.specs.declared.Body.the-variants.{Blank, Asks, Answers}
+use Rattle.rule.specs.declared.Letter.{Letter}
+use Rattle.rule.specs.declared.Yard.{Yard}
 use Rattle.yard.specs.declared.machine.Service.{Service}
-use Rattle.yard.specs.World.{World, isClient, unitLimit, blankLetter}
-use Rattle.yard.specs.Serve.{Served, serve, unserved, asking, offeringTo}
-use Rattle.yard.specs.Steps.{Done, refused, without, keeping, tooMany, withLetters, sentBy, answerTo, answers, served, taken, response, delivered, delivers}
-use Rattle.yard.specs.Lent.{unitsIn, unitsBytes}
+use Rattle.rule.specs.World.{World, isClient, unitLimit, blankLetter}
+use Rattle.rule.specs.Serve.{Served, serve, unserved, asking, offeringTo}
+use Rattle.rule.specs.Steps.{Done, refused, without, keeping, tooMany, withLetters, sentBy, answerTo, answers, served, taken, response, delivered, delivers}
+use Rattle.rule.specs.Lent.{unitsIn, unitsBytes}
 use Rattle.yard.specs.Parts.{worldOf, IsServed}
 use Rattle.yard.specs.Moves.{worldWith, posting, countAfter, Moved, Decided, refusing, sends, letterOf, turning, answering}
 use Rattle.yard.proofs.Letters.{getD-out}

@@ -5,9 +5,9 @@ use mathlib.Core.List.{List, [], _∷_}
 use Prim.Native.Nat.{ℕ, zero, suc, _<_, _≤_}
 use native.Mathlib.Nat.{not-suc-le-zero, le-of-suc-le-suc}
 use lib.ListN.{length, getD, set}
-use Rattle.yard.specs.World.{blankLetter as blank}
+use Rattle.rule.specs.World.{blankLetter as blank}
 use Rattle.yard.specs.Bag.{moveUp, closeUp}
-use Rattle.yard.specs.declared.letter.Letter.{Letter}
+use Rattle.rule.specs.declared.Letter.{Letter}
 
 abbrev pub shift : Letter → List Letter → ℕ → List Letter
 shift l ls zero = l ∷ ls

@@ -10,11 +10,11 @@ use lib.Dec.{leb}
 use lib.ListN.{length, getD, take, drop, set, replicate, take-append-drop, length-append, length-drop}
 use lib.Seq.{length-take-le, drop-cons}
 use Rattle.num.proofs.Tests.{and-false}
-use Rattle.yard.specs.declared.letter.Letter.{Letter}
-use Rattle.yard.specs.World.{blankLetter}
+use Rattle.rule.specs.declared.Letter.{Letter}
+use Rattle.rule.specs.World.{blankLetter}
 use Rattle.yard.specs.Bag.{moveUp, closeUp, putAt, dropAt}
-use Rattle.yard.specs.Steps.{without, keeping}
-use Rattle.yard.specs.Lent.{laid}
+use Rattle.rule.specs.Steps.{without, keeping}
+use Rattle.rule.specs.Lent.{laid}
 use Rattle.yard.specs.Moves.{posting, countAfter}
 use Rattle.yard.proofs.Delivering.{without-length}
 

@@ -18,9 +18,9 @@ use denote.Laws.{Is, Tells, Makes, Copy}
 use denote.Slice.{Room}
 use denote.Struct.Laws as LL
 use borrow.Author.Needs.{scaled-fits}
-use Rattle.yard.specs.declared.letter.Letter.{Letter}
-use Rattle.yard.proofs.letter.Letter as L
-use Rattle.yard.proofs.letter.Letter.Laws as L′
+use Rattle.rule.specs.declared.Letter.{Letter}
+use Rattle.rule.proofs.Letter as L
+use Rattle.rule.proofs.Letter.Laws as L′
 
 abbrev pub row : RattleType
 row = L.the-row

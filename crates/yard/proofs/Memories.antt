@@ -21,7 +21,7 @@ use Rattle.client.specs.declared.message.Page.{Page}
 use Rattle.client.specs.declared.message.Ask.{Ask}
 use Rattle.client.specs.declared.message.Response.{Response}
 use Rattle.unit.specs.Unit.{freshUnit}
-use Rattle.yard.specs.Lent.{goodUnits, unitsIn, unitsBytes}
+use Rattle.rule.specs.Lent.{goodUnits, unitsIn, unitsBytes}
 use Rattle.yard.specs.Parts.{unitOf, unitSays, unitAfter, OnUnit, AtUnit}
 
 none-left : {A : Type 0} (xs : List A) → length xs ≡ 0 → xs ≡ []

@@ -9,7 +9,7 @@ use borrow.Author.Tests.{leb-true, le-leb, lt-leb}
 use lib.Dec.{leb}
 use lib.ListN.{length, getD, set}
 use Rattle.num.proofs.Tests.{and-both, and-false}
-use Rattle.yard.specs.World.{isClient, isUnit, running}
+use Rattle.rule.specs.World.{isClient, isUnit, running}
 
 -- within the list it does not matter what stands past its end
 pub getD-any : {A : Type 0} (xs : List A) (i : ℕ) (d e : A) → i < length xs → getD xs i d ≡ getD xs i e

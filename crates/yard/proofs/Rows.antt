@@ -26,24 +26,24 @@ use Rattle.layout.proofs.Layout.Laws as G′
 use Rattle.client.specs.declared.state.Job.{Job}
 use Rattle.client.proofs.state.Job as J
 use Rattle.client.proofs.state.Job.Laws as J′
-use Rattle.yard.specs.declared.letter.Letter.{Letter}
-use Rattle.yard.proofs.letter.Letter as L
-use Rattle.yard.proofs.letter.Letter.Laws as L′
-use Rattle.yard.specs.declared.state.Yard.{Yard}
-use Rattle.yard.proofs.state.Yard as Y
-use Rattle.yard.proofs.state.Yard.Laws as Y′
-use Rattle.yard.specs.declared.state.Step.{Step}
-use Rattle.yard.proofs.state.Step as S
-use Rattle.yard.proofs.state.Step.Laws as S′
-use Rattle.yard.specs.declared.state.Stepped.{Stepped}
-use Rattle.yard.proofs.state.Stepped as R
-use Rattle.yard.proofs.state.Stepped.Laws as R′
+use Rattle.rule.specs.declared.Letter.{Letter}
+use Rattle.rule.proofs.Letter as L
+use Rattle.rule.proofs.Letter.Laws as L′
+use Rattle.rule.specs.declared.Yard.{Yard}
+use Rattle.rule.proofs.Yard as Y
+use Rattle.rule.proofs.Yard.Laws as Y′
+use Rattle.rule.specs.declared.Step.{Step}
+use Rattle.rule.proofs.Step as S
+use Rattle.rule.proofs.Step.Laws as S′
+use Rattle.rule.specs.declared.Stepped.{Stepped}
+use Rattle.rule.proofs.Stepped as R
+use Rattle.rule.proofs.Stepped.Laws as R′
 use Rattle.yard.specs.declared.decide.Settled.{Settled}
 use Rattle.yard.proofs.decide.Settled as D
 use Rattle.yard.proofs.decide.Settled.Laws as D′
-use Rattle.yard.specs.declared.fresh.Made.{Made}
-use Rattle.yard.proofs.fresh.Made as F
-use Rattle.yard.proofs.fresh.Made.Laws as F′
+use Rattle.rule.specs.declared.Made.{Made}
+use Rattle.rule.proofs.Made as F
+use Rattle.rule.proofs.Made.Laws as F′
 use Rattle.yard.specs.declared.fresh.Prepared.{Prepared}
 use Rattle.yard.proofs.fresh.Prepared as P
 use Rattle.yard.proofs.fresh.Prepared.Laws as P′

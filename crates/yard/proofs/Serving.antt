@@ -16,12 +16,12 @@ use Rattle.client.specs.declared.message.Page.{Page}
 use Rattle.client.specs.declared.message.Ask.{Ask}
 use Rattle.client.specs.declared.message.Ask.the-variants.{Write, Read, Trim, Prune, Seal}
 use Rattle.client.specs.declared.message.Response.{Response}
-use Rattle.yard.specs.declared.letter.Letter.{Letter}
-use Rattle.yard.specs.declared.state.Yard.{Yard}
+use Rattle.rule.specs.declared.Letter.{Letter}
+use Rattle.rule.specs.declared.Yard.{Yard}
 use Rattle.yard.specs.declared.machine.Service.{Service}
-use Rattle.yard.specs.World.{World, isUnit, running, unitLimit}
-use Rattle.yard.specs.Lent.{unitsIn, unitsBytes}
-use Rattle.yard.specs.Serve.{Served, serve, unserved}
+use Rattle.rule.specs.World.{World, isUnit, running, unitLimit}
+use Rattle.rule.specs.Lent.{unitsIn, unitsBytes}
+use Rattle.rule.specs.Serve.{Served, serve, unserved}
 use Rattle.yard.proofs.Places.{set-same}
 use Rattle.yard.specs.Parts.{unitSays, unitAfter, unitOf, AtUnit, worldOf, IsServed}
 

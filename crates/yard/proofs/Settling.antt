@@ -14,14 +14,14 @@ use Rattle.layout.specs.Value.{goodValue}
 use Rattle.sequencer.specs.declared.Sequencer.{Sequencer}
 use Rattle.client.specs.declared.state.Client.{Client}
 use Rattle.client.specs.declared.state.Job.{Job}
-use Rattle.yard.specs.declared.letter.Letter.{Letter}
-use Rattle.yard.specs.declared.state.Yard.{Yard}
-use Rattle.yard.specs.declared.state.Step.{Step}
+use Rattle.rule.specs.declared.Letter.{Letter}
+use Rattle.rule.specs.declared.Yard.{Yard}
+use Rattle.rule.specs.declared.Step.{Step}
 use Rattle.yard.specs.declared.moves.Moves.{Moves}
-use Rattle.yard.specs.World.{blankLetter}
+use Rattle.rule.specs.World.{blankLetter}
 use Rattle.yard.specs.Bag.{takeAt}
-use Rattle.yard.specs.Steps.{Done, step, keeping}
-use Rattle.yard.specs.Lent.{Lent, fetched, goodClients, goodUnits, lentNumber, seen, left, done, unlent, steps}
+use Rattle.rule.specs.Steps.{Done, step, keeping}
+use Rattle.rule.specs.Lent.{Lent, fetched, goodClients, goodUnits, lentNumber, seen, left, done, unlent, steps}
 use Rattle.yard.specs.Parts.{worldOf}
 use Rattle.yard.specs.Moves.{posting, countAfter, refusing, Decided}
 use Rattle.yard.specs.Settled.{testNumber, placeOf, settling, Settles, Decides}

@@ -23,10 +23,10 @@ use Rattle.client.specs.Client.{fresh, lastNumber, busy}
 use Rattle.client.specs.Turn.{rests, over, ends}
 use Rattle.client.specs.Job.{jobChecks}
 use Rattle.client.specs.Begin.{readyChecks, readyAnswer, beginTurn, giveUp, restartAnswer, restarted}
-use Rattle.yard.specs.declared.letter.Letter.{Letter}
-use Rattle.yard.specs.declared.state.Yard.{Yard}
-use Rattle.yard.specs.World.{isClient, running}
-use Rattle.yard.specs.Steps.{Done, refused, fine, keeping, without, posted, turned, beginNumber, begins, drops, stops, restartNumber, restarts, givesUp, forgets}
+use Rattle.rule.specs.declared.Letter.{Letter}
+use Rattle.rule.specs.declared.Yard.{Yard}
+use Rattle.rule.specs.World.{isClient, running}
+use Rattle.rule.specs.Steps.{Done, refused, fine, keeping, without, posted, turned, beginNumber, begins, drops, stops, restartNumber, restarts, givesUp, forgets}
 use Rattle.yard.specs.Moves.{worldWith, posting, doneOf, Moved, quiet, refusing, withClientIn, withStoppedIn, sends, letterOf, turning}
 
 -- a step that no operation ends with, and that leaves the letters

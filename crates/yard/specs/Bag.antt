@@ -4,8 +4,8 @@ use mathlib.Core.Bool.{_&&_, cond}
 use mathlib.Core.List.{List, [], _∷_}
 use lib.ListN.{length, getD, set}
 use lib.Dec.{leb, ltb}
-use Rattle.yard.specs.declared.letter.Letter.{Letter}
-use Rattle.yard.specs.World.{blankLetter}
+use Rattle.rule.specs.declared.Letter.{Letter}
+use Rattle.rule.specs.World.{blankLetter}
 
 -- the letter at a place, and the blank letter past the end
 abbrev pub takeAt : List Letter → ℕ → Letter

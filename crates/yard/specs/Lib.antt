@@ -1,11 +1,5 @@
-pub mod World
 pub mod Bag
-pub mod Serve
-pub mod Steps
-pub mod Lent
-pub mod Fresh
 pub mod Moves
 pub mod Parts
 pub mod Settled
 pub mod Prepared
-pub mod Unique

@@ -14,13 +14,13 @@ use Rattle.client.specs.declared.turn.Act.{Act}
 use Rattle.client.specs.declared.turn.Act.the-variants.{Rests, Sends, Ends}
 use Rattle.client.specs.declared.turn.Turn.{Turn}
 use Rattle.client.specs.Turn.{noOutcome}
-use Rattle.yard.specs.declared.letter.Letter.{Letter}
-use Rattle.yard.specs.declared.state.Yard.{Yard}
+use Rattle.rule.specs.declared.Letter.{Letter}
+use Rattle.rule.specs.declared.Yard.{Yard}
 use Rattle.yard.specs.declared.machine.Service.{Service}
 use Rattle.yard.specs.declared.moves.Moves.{Moves}
-use Rattle.yard.specs.World.{World, letterLimit, blankLetter}
-use Rattle.yard.specs.Steps.{Done, keeping, request, ended, answerTo}
-use Rattle.yard.specs.Lent.{unitsBytes}
+use Rattle.rule.specs.World.{World, letterLimit, blankLetter}
+use Rattle.rule.specs.Steps.{Done, keeping, request, ended, answerTo}
+use Rattle.rule.specs.Lent.{unitsBytes}
 
 -- the yard with some letters and some units
 abbrev pub worldWith : Yard → Sequencer → List Letter → List State → World

@@ -13,12 +13,12 @@ use Rattle.client.specs.declared.message.Ask.the-variants.{Fetch, Token, Write,
 use Rattle.client.specs.declared.message.Response.{Response}
 use Rattle.client.specs.Message.{noResponse}
 use Rattle.sequencer.specs.declared.Sequencer.{Sequencer}
-use Rattle.yard.specs.declared.letter.Letter.{Letter}
-use Rattle.yard.specs.declared.state.Yard.{Yard}
+use Rattle.rule.specs.declared.Letter.{Letter}
+use Rattle.rule.specs.declared.Yard.{Yard}
 use Rattle.yard.specs.declared.machine.Service.{Service}
-use Rattle.yard.specs.World.{World, unitLimit}
-use Rattle.yard.specs.Serve.{Served, saying, bare, kindOf, bytesOf, shown, edged}
-use Rattle.yard.specs.Lent.{unitsIn, unitsBytes}
+use Rattle.rule.specs.World.{World, unitLimit}
+use Rattle.rule.specs.Serve.{Served, saying, bare, kindOf, bytesOf, shown, edged}
+use Rattle.rule.specs.Lent.{unitsIn, unitsBytes}
 
 -- what a unit answers; nothing to what no unit is asked
 unfoldable pub unitSays : State → Ask → Page → Response

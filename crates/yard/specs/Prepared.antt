@@ -9,12 +9,12 @@ use Rattle.num.specs.Checks.{lowest, _if_}
 use Rattle.layout.specs.declared.Layout.{Layout}
 use Rattle.layout.specs.Value.{goodValue}
 use Rattle.sequencer.specs.declared.Sequencer.{Sequencer}
-use Rattle.yard.specs.declared.letter.Letter.{Letter}
+use Rattle.rule.specs.declared.Letter.{Letter}
 use Rattle.yard.specs.declared.fresh.Prepared.{Prepared}
-use Rattle.yard.specs.World.{unitLimit, letterLimit}
+use Rattle.rule.specs.World.{unitLimit, letterLimit}
 use Rattle.yard.specs.Bag.{blanked}
-use Rattle.yard.specs.Lent.{unitSize}
-use Rattle.yard.specs.Fresh.{IsMade}
+use Rattle.rule.specs.Lent.{unitSize}
+use Rattle.rule.specs.Fresh.{IsMade}
 
 -- the number of a fresh yard, by the number of the table's places and of the memories' bytes
 unfoldable pub freshNumberOf : Layout → ℕ → ℕ → ℕ

@@ -9,15 +9,15 @@ use Rattle.num.specs.Checks.{lowest, _if_}
 use Rattle.layout.specs.Value.{goodValue}
 use Rattle.sequencer.specs.declared.Sequencer.{Sequencer}
 use Rattle.client.specs.declared.state.Job.{Job}
-use Rattle.yard.specs.declared.letter.Letter.{Letter}
-use Rattle.yard.specs.declared.state.Yard.{Yard}
-use Rattle.yard.specs.declared.state.Step.{Step}
-use Rattle.yard.specs.declared.state.Step.the-variants.{Begin, Deliver, Drop, Stop, Restart, GiveUp, Forget}
+use Rattle.rule.specs.declared.Letter.{Letter}
+use Rattle.rule.specs.declared.Yard.{Yard}
+use Rattle.rule.specs.declared.Step.{Step}
+use Rattle.rule.specs.declared.Step.the-variants.{Begin, Deliver, Drop, Stop, Restart, GiveUp, Forget}
 use Rattle.yard.specs.declared.moves.Moves.{Moves}
 use Rattle.yard.specs.declared.decide.Settled.{Settled}
 use Rattle.yard.specs.Bag.{takeAt, putAt, dropAt}
-use Rattle.yard.specs.World.{unitLimit, letterLimit}
-use Rattle.yard.specs.Lent.{Lent, lentOf, goodUnits, goodClients, steps}
+use Rattle.rule.specs.World.{unitLimit, letterLimit}
+use Rattle.rule.specs.Lent.{Lent, lentOf, goodUnits, goodClients, steps}
 use Rattle.yard.specs.Moves.{countAfter}
 
 -- the number of what is lent, by the number of the table's places

@@ -4,7 +4,7 @@ ghost use mathlib.Core.Bool.{_&&_};
 ghost use lib.Dec.{leb, ltb};
 ghost use Prim.Native.Nat.{min};
 ghost use Rattle.yard.specs.Bag.{takeAt, putAt, dropAt, blanked};
-use crate::letter::Letter;
+use rule::Letter;
 
 // The letter at a place, copied out; past the end a blank one.
 pub fn take(table: &[Letter], i: usize) -> Letter

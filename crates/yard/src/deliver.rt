@@ -2,13 +2,11 @@
 ghost use mathlib.Core.Path.{_≡_};
 ghost use mathlib.Core.Bool.{Bool, true, false};
 ghost use Prim.Native.Nat.{ℕ, _<_};
-ghost use Rattle.yard.specs.Lent.{goodUnits};
-ghost use Rattle.yard.specs.Serve.{unserved};
-ghost use Rattle.yard.specs.Steps.{delivered, delivers};
+ghost use Rattle.rule.specs.Lent.{goodUnits};
+ghost use Rattle.rule.specs.Serve.{unserved};
+ghost use Rattle.rule.specs.Steps.{delivered, delivers};
 ghost use Rattle.yard.specs.Parts.{worldOf};
 ghost use Rattle.yard.specs.Moves.{worldWith, Moved, Decided, answering};
-use crate::letter::Body;
-use crate::letter::Letter;
 use crate::machine::Service;
 use crate::machine::serve;
 use crate::moves::Moves;
@@ -19,7 +17,6 @@ use crate::moves::is_sending;
 use crate::moves::refused;
 use crate::moves::turned;
 use crate::other_steps::is_running;
-use crate::state::Yard;
 use client::message::Ask;
 use client::message::Reply;
 use client::message::Response;
@@ -27,6 +24,9 @@ use client::message::Stamp;
 use client::take::take;
 use client::turn::Outcome;
 use num::answer::Answer;
+use rule::Body;
+use rule::Letter;
+use rule::Yard;
 use sequencer::Sequencer;
 
 // Does it ask a unit that there is not, or one that has stopped?

@@ -1,24 +1,19 @@
 // Making a fresh yard.
 ghost use mathlib.Core.Path.{_≡_};
 ghost use lib.ListN.{length};
-ghost use Rattle.yard.specs.Lent.{unitsBytes};
-ghost use Rattle.yard.specs.Fresh.{freshUnits, freshYard, IsMade};
+ghost use Rattle.rule.specs.Lent.{unitsBytes};
+ghost use Rattle.rule.specs.Fresh.{freshUnits, freshYard, IsMade};
 ghost use Rattle.yard.specs.Prepared.{freshNumberOf, IsPrepared};
 use crate::bag::clear;
-use crate::letter::Letter;
-use crate::state::Yard;
 use client::state::Client;
 use layout::Layout;
 use layout::good::is_good;
 use num::answer::Answer;
 use num::answer::pick;
+use rule::Letter;
+use rule::Made;
+use rule::Yard;
 use sequencer::Sequencer;
-
-// What making a yard answers, and the yard.
-pub struct Made {
-    pub answer: u8,
-    pub yard: Yard,
-}
 
 // Besides, the sequencer afterwards, and how many places of the table become blank.
 pub(crate) struct Prepared {

@@ -1,17 +1,17 @@
 // A step of the yard: the letter is taken, `decide` settles all by value over the units' bytes, and the table is changed by what it says.
 // It has no branch and no loop.
 ghost use mathlib.Core.Path.{_≡_};
-ghost use Rattle.yard.specs.Lent.{lentOf, IsStep};
+ghost use Rattle.rule.specs.Lent.{lentOf, IsStep};
 use crate::bag::drop_at;
 use crate::bag::put;
 use crate::bag::take;
 use crate::decide::decide;
 use crate::decide::place_of;
-use crate::letter::Letter;
-use crate::state::Step;
-use crate::state::Stepped;
-use crate::state::Yard;
 use client::state::Job;
+use rule::Letter;
+use rule::Step;
+use rule::Stepped;
+use rule::Yard;
 use sequencer::Sequencer;
 
 pub fn step(

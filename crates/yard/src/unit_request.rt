@@ -7,7 +7,7 @@ ghost use Rattle.layout.specs.Value.{padded};
 ghost use Rattle.unit.specs.Shape.{small};
 ghost use Rattle.unit.specs.Memory.{decode, encode, good as goodMemory};
 ghost use Rattle.unit.specs.Unit.{writeSays, writeUnit, trimSays, trimUnit, pruneSays, pruneUnit, sealUnit};
-ghost use Rattle.yard.specs.Serve.{saying, bare, kindOf, bytesOf, shown, edgeOr, edged};
+ghost use Rattle.rule.specs.Serve.{saying, bare, kindOf, bytesOf, shown, edgeOr, edged};
 ghost use Rattle.yard.specs.Parts.{OnUnit, unitSays, unitAfter};
 use client::message::Ask;
 use client::message::Page;

@@ -46,12 +46,12 @@ use Rattle.sequencer.specs.Rules as sequencer
 use Rattle.sequencer.specs.declared.Sequencer.{Sequencer}
 use Rattle.sequencer.proofs.Sequencer as Q
 use Rattle.sequencer.proofs.Sequencer.Laws as Q′
-use Rattle.yard.specs.World.{blankLetter}
-use Rattle.yard.specs.Fresh.{IsMade}
+use Rattle.rule.specs.World.{blankLetter}
+use Rattle.rule.specs.Fresh.{IsMade}
 use Rattle.kept.specs.Promises.{IsKeptMade}
-use Rattle.yard.specs.declared.letter.Letter.{Letter}
-use Rattle.yard.specs.declared.state.Yard.{Yard}
-use Rattle.yard.specs.declared.fresh.Made.{Made}
+use Rattle.rule.specs.declared.Letter.{Letter}
+use Rattle.rule.specs.declared.Yard.{Yard}
+use Rattle.rule.specs.declared.Made.{Made}
 use Rattle.kept.specs.declared.Kept.{Kept}
 use Rattle.kept.specs.declared.KeptMade.{KeptMade}
 use Rattle.yard.proofs.Letters as L
@@ -59,9 +59,9 @@ use Rattle.yard.proofs.Loans.{at-list, lend, back}
 use Rattle.yard.proofs.Tables.{at-value, lend-array, array-back, lend-local, local-back}
 use Rattle.yard.proofs.Rows.{sequencer-val, sequencer-tells, sequencer-makes, sequencer-typed, layout-val, layout-tells, layout-makes, layout-typed, letter-typed, yard-typed, made-typed}
 use Rattle.kept.proofs.KeptRows.{alike, MadeParts, made-parts, table-typed, is-kept, kept-typed, is-kept-made, kept-made-makes, kept-made-typed}
-use Rattle.yard.proofs.state.Yard as Y
-use Rattle.yard.proofs.state.Yard.Laws as Y′
-use Rattle.yard.proofs.fresh.Made as F
+use Rattle.rule.proofs.Yard as Y
+use Rattle.rule.proofs.Yard.Laws as Y′
+use Rattle.rule.proofs.Made as F
 use Rattle.kept.proofs.Kept as K
 use Rattle.kept.proofs.Kept.Laws as K′
 use Rattle.kept.proofs.KeptMade as N
@@ -70,10 +70,10 @@ use Rattle.sequencer.proofs.Sequencer.fresh as start
 use Rattle.sequencer.proofs.Sequencer.fresh.Symbol as start-def
 use Rattle.sequencer.proofs.Sequencer.fresh.Symbol.{name as #start}
 use Rattle.sequencer.proofs.Sequencer.fresh.Met as start-thm
-use Rattle.yard.proofs.letter.Letter.blank as blank
-use Rattle.yard.proofs.letter.Letter.blank.Symbol as blank-def
-use Rattle.yard.proofs.letter.Letter.blank.Symbol.{name as #blank}
-use Rattle.yard.proofs.letter.Letter.blank.Met as blank-thm
+use Rattle.rule.proofs.Letter.blank as blank
+use Rattle.rule.proofs.Letter.blank.Symbol as blank-def
+use Rattle.rule.proofs.Letter.blank.Symbol.{name as #blank}
+use Rattle.rule.proofs.Letter.blank.Met as blank-thm
 use Rattle.yard.proofs.fresh.fresh as fresh
 use Rattle.yard.proofs.fresh.fresh.Symbol as fresh-def
 use Rattle.yard.proofs.fresh.fresh.Symbol.{name as #fresh}
@@ -310,5 +310,5 @@ fresh-kept-spec 𝓤 H 𝓜 𝓖 𝓡 =
     (tables 𝓤 H 𝓜 𝓡 code.env .C) (tables 𝓤 H 𝓜 𝓡 code.env .Λ) #fresh-kept code.function (code.unfolded 𝓤 H 𝓜 𝓡)
     (fresh-kept-meets 𝓤 H (𝓖 .A) (givenOf 𝓤 H 𝓜 𝓖) (𝓜 .mem) (𝓡 .run) (tablesOf 𝓤 H 𝓜 (tables 𝓤 H 𝓜 𝓡 code.env))
     (cited 𝓤 H (Start 𝓤 H (𝓖 .A) (𝓜 .mem) (𝓡 .run)) 𝓜 𝓡 code.env #start start-def.routine code.calls-sequencer·Sequencer·fresh (start-thm.met 𝓤 H 𝓜 𝓖 𝓡))
-    (cited 𝓤 H (Blank 𝓤 H (𝓖 .A) (𝓜 .mem) (𝓡 .run)) 𝓜 𝓡 code.env #blank blank-def.routine code.calls-yard·letter·Letter·blank (blank-thm.met 𝓤 H 𝓜 𝓖 𝓡))
+    (cited 𝓤 H (Blank 𝓤 H (𝓖 .A) (𝓜 .mem) (𝓡 .run)) 𝓜 𝓡 code.env #blank blank-def.routine code.calls-rule·Letter·blank (blank-thm.met 𝓤 H 𝓜 𝓖 𝓡))
     (cited 𝓤 H (Fresh 𝓤 H (𝓖 .A) (𝓜 .mem) (𝓡 .run)) 𝓜 𝓡 code.env #fresh fresh-def.routine code.calls-yard·fresh·fresh (fresh-thm.met 𝓤 H 𝓜 𝓖 𝓡)))

@@ -45,12 +45,12 @@ use Rattle.sequencer.proofs.Sequencer.Laws as Q′
 use Rattle.client.specs.declared.state.Job.{Job}
 use Rattle.client.proofs.state.Job as J
 use Rattle.client.proofs.state.Job.Laws as J′
-use Rattle.yard.specs.Lent.{lentOf, IsStep}
+use Rattle.rule.specs.Lent.{lentOf, IsStep}
 use Rattle.kept.specs.Promises.{IsKeptStep}
-use Rattle.yard.specs.declared.letter.Letter.{Letter}
-use Rattle.yard.specs.declared.state.Yard.{Yard}
-use Rattle.yard.specs.declared.state.Step.{Step}
-use Rattle.yard.specs.declared.state.Stepped.{Stepped}
+use Rattle.rule.specs.declared.Letter.{Letter}
+use Rattle.rule.specs.declared.Yard.{Yard}
+use Rattle.rule.specs.declared.Step.{Step}
+use Rattle.rule.specs.declared.Stepped.{Stepped}
 use Rattle.kept.specs.declared.Kept.{Kept}
 use Rattle.kept.specs.declared.KeptStep.{KeptStep}
 use Rattle.yard.proofs.Letters as L
@@ -58,12 +58,12 @@ use Rattle.yard.proofs.Loans.{at-list, lend, back}
 use Rattle.yard.proofs.Tables.{at-value, lend-array, array-back, lend-local, local-back}
 use Rattle.yard.proofs.Rows.{sequencer-val, sequencer-tells, sequencer-makes, sequencer-typed, job-val, job-tells, job-makes, job-typed, yard-makes, yard-typed, step-val, step-tells, step-makes, step-typed, stepped-typed}
 use Rattle.kept.proofs.KeptRows.{kept-val, kept-tells, kept-typed, KeptParts, kept-parts, table-typed, is-kept-step, kept-step-makes, kept-step-typed}
-use Rattle.yard.proofs.state.Yard as Y
-use Rattle.yard.proofs.state.Yard.Laws as Y′
-use Rattle.yard.proofs.state.Step as S
-use Rattle.yard.proofs.state.Step.Laws as S′
-use Rattle.yard.proofs.state.Stepped as R
-use Rattle.yard.proofs.state.Stepped.Laws as R′
+use Rattle.rule.proofs.Yard as Y
+use Rattle.rule.proofs.Yard.Laws as Y′
+use Rattle.rule.proofs.Step as S
+use Rattle.rule.proofs.Step.Laws as S′
+use Rattle.rule.proofs.Stepped as R
+use Rattle.rule.proofs.Stepped.Laws as R′
 use Rattle.kept.proofs.Kept as K
 use Rattle.kept.proofs.KeptStep as N
 use Rattle.kept.proofs.KeptStep.Laws as N′

@@ -49,17 +49,17 @@ use denote.Triple.Clauses.{ensured, lasts}
 use denote.Triple.Table.{entered, cited}
 use denote.Triple.Walked.{says, Stays, stay-slice, stay-none, walkOf, AllGo, goes-slice, goes-none, Walks, ends-at, walked, walk-meets}
 use denote.Exit.{yes}
-use Rattle.yard.specs.World.{blankLetter as blank}
+use Rattle.rule.specs.World.{blankLetter as blank}
 use Rattle.yard.specs.Bag.{closeUp, dropAt}
-use Rattle.yard.specs.declared.letter.Letter.{Letter}
+use Rattle.rule.specs.declared.Letter.{Letter}
 use Rattle.yard.proofs.Letters as L
 use Rattle.yard.proofs.Drops.{moved, moved-long, moved-first, moved-next, moved-last}
-use Rattle.yard.proofs.letter.Letter as L″
-use Rattle.yard.proofs.letter.Letter.Laws as L′
-use Rattle.yard.proofs.letter.Letter.blank as blank-letter
-use Rattle.yard.proofs.letter.Letter.blank.Symbol as blank-letter-def
-use Rattle.yard.proofs.letter.Letter.blank.Symbol.{name as #bag·blank-letter}
-use Rattle.yard.proofs.letter.Letter.blank.Met as blank-letter-thm
+use Rattle.rule.proofs.Letter as L″
+use Rattle.rule.proofs.Letter.Laws as L′
+use Rattle.rule.proofs.Letter.blank as blank-letter
+use Rattle.rule.proofs.Letter.blank.Symbol as blank-letter-def
+use Rattle.rule.proofs.Letter.blank.Symbol.{name as #bag·blank-letter}
+use Rattle.rule.proofs.Letter.blank.Met as blank-letter-thm
 use Rattle.yard.proofs.bag.droppable as droppable
 use Rattle.yard.proofs.bag.droppable.Symbol as droppable-def
 use Rattle.yard.proofs.bag.droppable.Symbol.{name as #bag·droppable}
@@ -315,5 +315,5 @@ drop-at-spec 𝓤 H 𝓜 𝓖 𝓡 =
     entered 𝓤 H (tripleOf 𝓤 H (𝓖 .A) drop-at.signature (drop-at.spec 𝓤 H (𝓖 .A) (𝓜 .mem) (𝓡 .run)))
     (tables 𝓤 H 𝓜 𝓡 code.env .C) (tables 𝓤 H 𝓜 𝓡 code.env .Λ) #bag·drop-at code.function (code.unfolded 𝓤 H 𝓜 𝓡)
     (drop-at-meets 𝓤 H (𝓖 .A) (givenOf 𝓤 H 𝓜 𝓖) (𝓜 .mem) (𝓡 .run) (tablesOf 𝓤 H 𝓜 (tables 𝓤 H 𝓜 𝓡 code.env))
-    (cited 𝓤 H (Blank 𝓤 H (𝓖 .A) (𝓜 .mem) (𝓡 .run)) 𝓜 𝓡 code.env #bag·blank-letter blank-letter-def.routine code.calls-yard·letter·Letter·blank (blank-letter-thm.met 𝓤 H 𝓜 𝓖 𝓡))
+    (cited 𝓤 H (Blank 𝓤 H (𝓖 .A) (𝓜 .mem) (𝓡 .run)) 𝓜 𝓡 code.env #bag·blank-letter blank-letter-def.routine code.calls-rule·Letter·blank (blank-letter-thm.met 𝓤 H 𝓜 𝓖 𝓡))
     (cited 𝓤 H (Droppable 𝓤 H (𝓖 .A) (𝓜 .mem) (𝓡 .run)) 𝓜 𝓡 code.env #bag·droppable droppable-def.routine code.calls-yard·bag·droppable (droppable-thm.met 𝓤 H 𝓜 𝓖 𝓡)))

@@ -39,8 +39,8 @@ use denote.Triple.Spec.{Meets, tripleOf}
 use denote.Triple.Table.{entered}
 use denote.Triple.Walked.{says, Stays, stay-slice, stay-none, walkOf, AllGo, goes-slice, goes-none, Walks, ends-at, walked, walk-meets}
 use denote.Exit.{yes}
-use Rattle.yard.specs.World.{blankLetter as blank}
-use Rattle.yard.specs.declared.letter.Letter.{Letter}
+use Rattle.rule.specs.World.{blankLetter as blank}
+use Rattle.rule.specs.declared.Letter.{Letter}
 use Rattle.yard.proofs.Letters as L
 use Rattle.yard.proofs.bag.put.Key.{name as #bag·put}
 use Rattle.yard.proofs.bag.put as put

@@ -1,8 +1,8 @@
 use borrow.Author.Needs.{needs}
 use mathlib.Core.Path.{sym}
 use Rattle.yard.proofs.Memories.{units-same}
-use Rattle.yard.specs.Lent.{unitsIn}
-use Rattle.yard.specs.Steps.{step}
+use Rattle.rule.specs.Lent.{unitsIn}
+use Rattle.rule.specs.Steps.{step}
 use Rattle.yard.proofs.Delivering.{decided-moved}
 use Rattle.yard.proofs.decide.chosen.Statement.{statement}
 use Rattle.yard.proofs.decide.chosen.Tie as tie

@@ -2,7 +2,7 @@ use borrow.Author.Needs.{needs}
 use mathlib.Core.Path.{sym}
 use native.Mathlib.Omega.{arith}
 use Rattle.yard.proofs.Memories.{units-same}
-use Rattle.yard.specs.Lent.{unitsIn}
+use Rattle.rule.specs.Lent.{unitsIn}
 use Rattle.yard.proofs.Delivering.{decided-moved, delivers-nobody, delivers-brought}
 use Rattle.yard.proofs.deliver.delivers.Statement.{statement}
 use Rattle.yard.proofs.deliver.delivers.Tie as tie

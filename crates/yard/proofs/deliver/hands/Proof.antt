@@ -2,11 +2,11 @@ use borrow.Author.Needs.{needs}
 use mathlib.Core.Path.{sym}
 use borrow.Author.Tests.{lt-ltb, le-ltb}
 use Rattle.yard.proofs.Memories.{units-same}
-use Rattle.yard.specs.Lent.{unitsIn}
+use Rattle.rule.specs.Lent.{unitsIn}
 use mathlib.Core.Bool.{not}
 use Rattle.num.proofs.Tests.{or-false}
-use Rattle.yard.specs.World.{isClient}
-use Rattle.yard.specs.Serve.{unserved}
+use Rattle.rule.specs.World.{isClient}
+use Rattle.rule.specs.Serve.{unserved}
 use Rattle.yard.proofs.Delivering.{decided-moved, asks-nobody, asks-full, asks-served}
 use Rattle.yard.proofs.deliver.hands.Statement.{statement}
 use Rattle.yard.proofs.deliver.hands.Tie as tie

@@ -46,15 +46,15 @@ use Rattle.layout.proofs.Layout as G
 use Rattle.sequencer.specs.declared.Sequencer.{Sequencer}
 use Rattle.sequencer.proofs.Sequencer as Q
 use Rattle.yard.specs.Bag.{blanked}
-use Rattle.yard.specs.Fresh.{IsMade}
+use Rattle.rule.specs.Fresh.{IsMade}
 use Rattle.yard.specs.Prepared.{IsPrepared}
-use Rattle.yard.specs.declared.letter.Letter.{Letter}
+use Rattle.rule.specs.declared.Letter.{Letter}
 use Rattle.yard.specs.declared.fresh.Prepared.{Prepared}
 use Rattle.yard.proofs.Letters as L
 use Rattle.yard.proofs.Loans.{at-list, lend, back}
 use Rattle.yard.proofs.LocalTypes.{Types, Typed, spelled, typed, made-type, prepared-type}
 use Rattle.yard.proofs.Rows.{sequencer-val, sequencer-tells, sequencer-makes, layout-val, layout-tells, layout-makes, made-makes, PreparedParts, prepared-parts}
-use Rattle.yard.proofs.fresh.Made as F
+use Rattle.rule.proofs.Made as F
 use Rattle.yard.proofs.fresh.Prepared as D
 use Rattle.yard.proofs.fresh.prepare as prepare
 use Rattle.yard.proofs.fresh.prepare.Symbol as prepare-def

@@ -1,6 +1,6 @@
 use borrow.Author.Needs.{needs}
 use borrow.Author.Tests.{eq-eqb, ne-eqb}
-use Rattle.yard.specs.Serve.{fetching}
+use Rattle.rule.specs.Serve.{fetching}
 use Rattle.yard.proofs.machine.fetching.Statement.{statement}
 use Rattle.yard.proofs.machine.fetching.Tie as tie
 

@@ -1,7 +1,7 @@
 use borrow.Author.Needs.{needs}
 use mathlib.Core.Path.{_≡_, refl, sym}
 use Rattle.yard.proofs.Memories.{units-same}
-use Rattle.yard.specs.Serve.{serve, asking, offeringTo}
+use Rattle.rule.specs.Serve.{serve, asking, offeringTo}
 use Rattle.yard.proofs.Serving.{as-writes, as-reads, as-trims, as-prunes, as-seals, served-unit, at-unit, writes, reads, trims, prunes, seals}
 use Rattle.yard.proofs.machine.serve.Statement.{statement}
 use Rattle.yard.proofs.machine.serve.Tie as tie

@@ -47,19 +47,19 @@ use Rattle.sequencer.proofs.Sequencer as Q
 use Rattle.client.specs.declared.state.Job.{Job}
 use Rattle.client.proofs.state.Job as J
 use Rattle.yard.specs.Bag.{takeAt, putAt, dropAt}
-use Rattle.yard.specs.Lent.{lentOf, IsStep}
+use Rattle.rule.specs.Lent.{lentOf, IsStep}
 use Rattle.yard.specs.Settled.{placeOf, Decides}
-use Rattle.yard.specs.declared.letter.Letter.{Letter}
-use Rattle.yard.specs.declared.state.Yard.{Yard}
-use Rattle.yard.specs.declared.state.Step.{Step}
+use Rattle.rule.specs.declared.Letter.{Letter}
+use Rattle.rule.specs.declared.Yard.{Yard}
+use Rattle.rule.specs.declared.Step.{Step}
 use Rattle.yard.specs.declared.decide.Settled.{Settled}
 use Rattle.yard.proofs.Letters as L
 use Rattle.yard.proofs.Loans.{at-list, lend, back, share, unshare}
 use Rattle.yard.proofs.LocalTypes.{Types, Typed, spelled, typed, settled-type}
 use Rattle.yard.proofs.Rows.{sequencer-val, sequencer-tells, sequencer-makes, job-val, job-tells, job-makes, letter-makes, yard-val, yard-tells, yard-makes, step-val, step-tells, step-makes, stepped-makes, SettledParts, settled-parts}
-use Rattle.yard.proofs.state.Yard as Y
-use Rattle.yard.proofs.state.Step as S
-use Rattle.yard.proofs.state.Stepped as R
+use Rattle.rule.proofs.Yard as Y
+use Rattle.rule.proofs.Step as S
+use Rattle.rule.proofs.Stepped as R
 use Rattle.yard.proofs.decide.Settled as D
 use Rattle.yard.proofs.decide.place_of as place-of
 use Rattle.yard.proofs.decide.place_of.Symbol as place-of-def

@@ -1,4 +1,4 @@
-use Rattle.yard.specs.Serve.{kindOf}
+use Rattle.rule.specs.Serve.{kindOf}
 use borrow.Author.Tests.{le-leb, lt-leb}
 use Rattle.yard.proofs.unit_request.kind_of.Statement.{statement}
 use Rattle.yard.proofs.unit_request.kind_of.Tie as tie

@@ -1,5 +1,5 @@
 use borrow.Author.Needs.{needs}
-use Rattle.yard.specs.Serve.{bytesOf}
+use Rattle.rule.specs.Serve.{bytesOf}
 use mathlib.Core.Path.{_≡_, refl}
 use native.Mathlib.Omega.{arith}
 use borrow.Author.Tests.{le-leb, lt-leb}

@@ -4,7 +4,7 @@ use mathlib.Core.Path.{_≡_, sym, ap, _∙_}
 use native.Mathlib.Omega.{arith}
 use borrow.Author.Tests.{eq-eqb, ne-eqb}
 use lib.ListN.{length}
-use Rattle.yard.specs.Serve.{shown, pageOf, bare}
+use Rattle.rule.specs.Serve.{shown, pageOf, bare}
 use Rattle.yard.proofs.Doing.{read-does, payload-is, payload-short}
 use Rattle.yard.proofs.unit_request.read_on.Statement.{statement}
 use Rattle.yard.proofs.unit_request.read_on.Tie as tie

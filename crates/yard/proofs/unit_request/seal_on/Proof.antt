@@ -1,8 +1,8 @@
 use borrow.Author.Needs.{needs}
 use mathlib.Core.Path.{_≡_, ap, _∙_}
-use Rattle.yard.specs.Serve.{saying, bare}
+use Rattle.rule.specs.Serve.{saying, bare}
 use Rattle.client.specs.declared.message.Reply.{Reply}
-use Rattle.yard.specs.Serve.{edgeOr, edged, saying, bare}
+use Rattle.rule.specs.Serve.{edgeOr, edged, saying, bare}
 use native.Mathlib.Omega.{arith}
 use Rattle.yard.proofs.Doing.{seal-does}
 use Rattle.yard.proofs.unit_request.seal_on.Statement.{statement}

@@ -1,6 +1,6 @@
 use borrow.Author.Needs.{needs}
 use mathlib.Core.Path.{_≡_, ap, _∙_, sym}
-use Rattle.yard.specs.Serve.{saying, bare}
+use Rattle.rule.specs.Serve.{saying, bare}
 use Rattle.client.specs.declared.message.Reply.{Reply}
 use lib.Seq.{length-take-le}
 use native.Mathlib.Omega.{arith}

@@ -1,0 +1,5 @@
+-- What holds of every step.
+pub mod Lists
+pub mod Tidy
+pub mod Refusing
+pub mod Bringing

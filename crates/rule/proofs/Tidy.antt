@@ -1,0 +1,192 @@
+-- A step leaves each unit its number, and at most 32 letters in the bag: where one would be too many the step is refused, and none is lost.
+use mathlib.Core.Path.{_≡_, refl, sym, subst, _∙_}
+use mathlib.Core.Bool.{Bool, true, false, not, cond}
+use mathlib.Core.List.{List, [], _∷_, _++_}
+use Prim.Native.Nat.{ℕ, zero, suc, _+_, _-_, _≤_, _<_}
+use native.Mathlib.Omega.{arith}
+use lib.Dec.{eqb, leb, ltb}
+use lib.ListN.{length, getD, set, length-set, length-append}
+use borrow.Author.Tests.{eqb-true, leb-false, ltb-false}
+use Rattle.num.specs.Checks.{Check, lowest}
+use Rattle.num.proofs.Tests.{cond-zero, or-false}
+use Rattle.layout.specs.declared.Layout.{Layout}
+use Rattle.unit.specs.Shape.{small}
+use Rattle.unit.specs.State.{State, lookup}
+use Rattle.unit.specs.Unit.{freshUnit, trimmed, writeSays, written, writeUnit, trimSays, retired, trimmedAt, trimUnit, pruneSays, pruned, prunedTo, pruneUnit, sealSays, sealedAt, sealUnit}
+use Rattle.client.specs.declared.message.Ask.{Ask}
+use Rattle.client.specs.declared.message.Ask.the-variants.{Fetch, Token, Write, Read, Trim, Prune, Seal, Offer, Start}
+use Rattle.client.specs.declared.message.Page.{Page as PageValue}
+use Rattle.client.specs.declared.state.Job.{Job}
+use Rattle.client.specs.declared.turn.Turn.{Turn}
+use Rattle.client.specs.Client.{busy, lastNumber}
+use Rattle.client.specs.Turn.{rests, over, ends}
+use Rattle.client.specs.Take.{takes}
+use Rattle.client.specs.Job.{jobChecks}
+use Rattle.client.specs.Begin.{beginTurn, giveUp, restarted}
+use Rattle.rule.specs.declared.Body.{Body}
+use Rattle.rule.specs.declared.Body.the-variants.{Blank, Asks, Answers}
+use Rattle.rule.specs.declared.Letter.{Letter}
+use Rattle.rule.specs.declared.Step.{Step}
+use Rattle.rule.specs.declared.Step.the-variants.{Begin, Deliver, Drop, Stop, Restart, GiveUp, Forget}
+use Rattle.rule.specs.World.{World, isClient, isUnit, running, clientAt, unitAt, letterAt, letterLimit}
+use Rattle.rule.specs.Serve.{withUnit, serve, asking, offeringTo, unserved, kindOf, bytesOf}
+use Rattle.rule.specs.Steps.{Done, refused, fine, without, keeping, tooMany, withLetters, withClient, withStopped, sentBy, turned, beginNumber, begins, answers, served, taken, unbrought, brought, delivered, delivers, drops, stops, restartNumber, restarts, givesUp, forgets, response, step}
+use Rattle.rule.proofs.Lists.{posted-few, set-all, unit-range, unit-runs}
+
+-- ---- the number of a unit does not change
+
+either-number : {n : ℕ} (b : Bool) (x y : State) → x .number ≡ n → y .number ≡ n → cond b x y .number ≡ n
+either-number true x y a b = a
+either-number false x y a b = b
+
+module _ (u : State) where
+  write-number : (e p k : ℕ) (xs : List ℕ) → writeUnit small u e p k xs .number ≡ u .number
+  unfolding writeUnit written
+  write-number e p k xs = either-number (eqb (writeSays small u e p k xs) 0) (written u p k xs) u refl refl
+
+  trim-number : (e p : ℕ) → trimUnit small u e p .number ≡ u .number
+  unfolding trimUnit trimmedAt written retired
+  trim-number e p =
+      let at = either-number (trimmed p (u .floor) (lookup p (u .slots) .kind)) u (cond (eqb (lookup p (u .slots) .kind) 0) (written u p 3 []) (retired u p)) refl
+      (either-number (eqb (lookup p (u .slots) .kind) 0) (written u p 3 []) (retired u p) refl refl) in
+      either-number (eqb (trimSays small u e p) 0) (trimmedAt u p) u at refl
+
+  prune-number : (e p : ℕ) → pruneUnit u e p .number ≡ u .number
+  unfolding pruneUnit prunedTo pruned
+  prune-number e p = either-number (eqb (pruneSays u e p) 0) (prunedTo u p) u (either-number (ltb (u .floor) p) (pruned u p) u refl refl) refl
+
+  seal-number : (n : ℕ) → sealUnit u n .number ≡ u .number
+  unfolding sealUnit sealedAt
+  seal-number n = either-number (eqb (sealSays u n) 0) (sealedAt u n) u refl refl
+
+-- ---- what a yard is like after any moves
+
+pub record Tidy (w : World) : Type 0 where
+  pub eight : length (w .units) ≡ 8
+  pub numbers : (u : ℕ) → 1 ≤ u → u ≤ 8 → unitAt w u .number ≡ u
+  pub few : length (w .letters) ≤ 32
+
+-- other letters, other clients, a stopped unit, another sequencer or layout
+tidy-as : {w w′ : World} → w′ .units ≡ w .units → length (w′ .letters) ≤ 32 → Tidy w → Tidy w′
+tidy-as {w} {w′} same few tidy = record {
+  eight = subst (λ (us : List State). length us ≡ 8) (sym same) (tidy .eight);
+  numbers = subst (λ (us : List State). (u : ℕ) → 1 ≤ u → u ≤ 8 → getD us (u - 1) (freshUnit u) .number ≡ u) (sym same) (tidy .numbers);
+  few = few;
+}
+
+either-tidy : (b : Bool) (d e : Done) → (b ≡ true → Tidy (d .world)) → (b ≡ false → Tidy (e .world)) → Tidy (cond b d e .world)
+either-tidy true d e x y = x refl
+either-tidy false d e x y = y refl
+
+-- ---- a machine that serves
+
+with-number : {w : World} {u : ℕ} (M : State) (ls : List Letter) → Tidy w → length ls ≤ 32 → 1 ≤ u → u ≤ 8 → M .number ≡ unitAt w u .number → Tidy (withLetters (withUnit w u M) ls)
+with-number {w} {u} M ls tidy few low high same = record {
+  eight = length-set (w .units) (u - 1) M ∙ tidy .eight;
+  numbers = set-all (λ v N. N .number ≡ v) freshUnit (w .units) 8 u M (tidy .eight) low high (same ∙ tidy .numbers u low high) (λ v from to ne. tidy .numbers v from to);
+  few = few;
+}
+
+serve-tidy : (w : World) (a : Ask) (g : PageValue) (k : Layout) (ls : List Letter) → unserved (w .stopped) a ≡ false → length ls ≤ 32 → Tidy w → Tidy (withLetters (serve w a g k .world) ls)
+unfolding serve asking offeringTo
+serve-tidy w Fetch g k ls to few tidy = tidy-as refl few tidy
+serve-tidy w (Token e) g k ls to few tidy = tidy-as refl few tidy
+serve-tidy w (Write u e p) g k ls to few tidy =
+    let range = unit-range u (unit-runs (isUnit u) (not (getD (w .stopped) (u - 1) true)) to) in
+    with-number (writeUnit small (unitAt w u) (e .0) (p .0) (kindOf g) (bytesOf g)) ls tidy few (range .0) (range .1) (write-number (unitAt w u) (e .0) (p .0) (kindOf g) (bytesOf g))
+serve-tidy w (Read u e p) g k ls to few tidy = tidy-as refl few tidy
+serve-tidy w (Trim u e p) g k ls to few tidy =
+    let range = unit-range u (unit-runs (isUnit u) (not (getD (w .stopped) (u - 1) true)) to) in
+    with-number (trimUnit small (unitAt w u) (e .0) (p .0)) ls tidy few (range .0) (range .1) (trim-number (unitAt w u) (e .0) (p .0))
+serve-tidy w (Prune u e p) g k ls to few tidy =
+    let range = unit-range u (unit-runs (isUnit u) (not (getD (w .stopped) (u - 1) true)) to) in
+    with-number (pruneUnit (unitAt w u) (e .0) (p .0)) ls tidy few (range .0) (range .1) (prune-number (unitAt w u) (e .0) (p .0))
+serve-tidy w (Seal u e) g k ls to few tidy =
+    let range = unit-range u (unit-runs (isUnit u) (not (getD (w .stopped) (u - 1) true)) to) in
+    with-number (sealUnit (unitAt w u) (e .0)) ls tidy few (range .0) (range .1) (seal-number (unitAt w u) (e .0))
+serve-tidy w Offer g k ls to few tidy = tidy-as refl few tidy
+serve-tidy w (Start e p) g k ls to few tidy = tidy-as refl few tidy
+
+-- ---- every step
+
+without-few : (i : ℕ) (ls : List Letter) → length (without i ls) ≤ length ls
+unfolding without
+without-few i [] = omega arith
+without-few zero (l ∷ ls) = omega arith
+without-few (suc i) (l ∷ ls) = omega (arith, without-few i ls)
+
+begin-room : (w : World) (c : ℕ) (j : Job) → beginNumber w c j ≡ 0 → length (w .letters) < 32
+unfolding beginNumber
+begin-room w c j e =
+    let bag : Check = record { applies = leb letterLimit (length (w .letters)); number = 16 } in
+    let a = cond-zero (not (isClient c)) 17 (cond (busy (clientAt w c .stage)) 18 (cond (leb lastNumber (clientAt w c .used .0)) 19 (lowest (bag ∷ jobChecks j)))) (omega arith) e in
+    let b = cond-zero (busy (clientAt w c .stage)) 18 (cond (leb lastNumber (clientAt w c .used .0)) 19 (lowest (bag ∷ jobChecks j))) (omega arith) (a .1) in
+    let d = cond-zero (leb lastNumber (clientAt w c .used .0)) 19 (lowest (bag ∷ jobChecks j)) (omega arith) (b .1) in
+    leb-false letterLimit (length (w .letters)) (cond-zero (leb letterLimit (length (w .letters))) 16 (lowest (jobChecks j)) (omega arith) (d .1) .0)
+
+module _ (w : World) (tidy : Tidy w) where
+  -- a client's turn, where there is room for what it sends
+  turned-tidy : (ls : List Letter) (c : ℕ) (t : Turn) → length (ls ++ sentBy c t) ≤ 32 → Tidy (turned w ls c t .world)
+  unfolding turned
+  turned-tidy ls c t few = tidy-as refl few tidy
+
+  begin-tidy : (c : ℕ) (j : Job) → Tidy (begins w c j .world)
+  unfolding begins
+  begin-tidy c j =
+      let t = beginTurn (clientAt w c) j in
+      either-tidy (eqb (beginNumber w c j) 0) (turned w (w .letters) c t) (refused w (beginNumber w c j))
+      (λ e. turned-tidy (w .letters) c t
+      (omega (arith, begin-room w c j (eqb-true (beginNumber w c j) 0 e), length-append (w .letters) (sentBy c t), posted-few c (t .client .life) (t .act) (t .query))))
+      (λ e. tidy)
+
+  give-up-tidy : (c : ℕ) → Tidy (givesUp w c .world)
+  unfolding givesUp giveUp ends over rests
+  give-up-tidy c = either-tidy (isClient c) (turned w (w .letters) c (giveUp (clientAt w c))) (refused w 17) (λ e. go (busy (clientAt w c .stage))) (λ e. tidy)
+    where
+      none-at-all : List Letter
+      none-at-all = []
+
+      none-more : length (w .letters ++ []) ≤ 32
+      none-more = omega (arith, length-append (w .letters) none-at-all, tidy .few)
+
+      go : (b : Bool) → Tidy (turned w (w .letters) c (cond b (ends (clientAt w c) 20) (rests (clientAt w c))) .world)
+      go true = turned-tidy (w .letters) c (ends (clientAt w c) 20) none-more
+      go false = turned-tidy (w .letters) c (rests (clientAt w c)) none-more
+
+  deliver-tidy : (i : ℕ) (keep keepAnswer : Bool) → Tidy (delivers w i keep keepAnswer .world)
+  unfolding delivers delivered served taken
+  deliver-tidy i keep keepAnswer = go (letterAt w i .body)
+    where
+      l : Letter
+      l = letterAt w i
+
+      ls : List Letter
+      ls = keeping keep i (w .letters)
+
+      go : (b : Body) → Tidy (cond (unbrought w l b) (refused w 17) (brought w ls keepAnswer l b) .world)
+      go Blank = tidy
+      go (Asks a) =
+          let v = serve w a (l .page) (l .layout) in
+          let full = ls ++ answers keepAnswer (l .stamp) (v .response) in
+          either-tidy (unbrought w l (Asks a)) (refused w 17) (cond (tooMany full) (refused w 16) (fine (withLetters (v .world) full))) (λ e. tidy)
+          (λ e. either-tidy (tooMany full) (refused w 16) (fine (withLetters (v .world) full)) (λ t. tidy)
+          (λ t. serve-tidy w a (l .page) (l .layout) full (or-false (not (isClient (l .stamp .client))) (unserved (w .stopped) a) e .1) (ltb-false 32 (length full) t) tidy))
+      go (Answers r) =
+          let c = l .stamp .client in
+          let t = takes c (clientAt w c) (l .stamp) (response r l) in
+          either-tidy (unbrought w l (Answers r)) (refused w 17) (cond (tooMany (ls ++ sentBy c t)) (refused w 16) (turned w ls c t)) (λ e. tidy)
+          (λ e. either-tidy (tooMany (ls ++ sentBy c t)) (refused w 16) (turned w ls c t) (λ f. tidy) (λ f. turned-tidy ls c t (ltb-false 32 (length (ls ++ sentBy c t)) f)))
+
+  pub step-tidy : (s : Step) (j : Job) → Tidy (step w s j .world)
+  unfolding step drops stops restarts forgets
+  step-tidy (Begin c) j = begin-tidy c j
+  step-tidy (Deliver i keep keepAnswer) j = deliver-tidy i keep keepAnswer
+  step-tidy (Drop i) j =
+      either-tidy (ltb i (length (w .letters))) (fine (withLetters w (without i (w .letters)))) (refused w 17)
+      (λ e. tidy-as refl (omega (arith, without-few i (w .letters), tidy .few)) tidy) (λ e. tidy)
+  step-tidy (Stop u) j =
+      either-tidy (running (w .stopped) u) (fine (withStopped w (set (w .stopped) (u - 1) true))) (refused w 17) (λ e. tidy-as refl (tidy .few) tidy) (λ e. tidy)
+  step-tidy (Restart c) j =
+      either-tidy (eqb (restartNumber w c) 0) (fine (withClient w c (restarted (clientAt w c)))) (refused w (restartNumber w c)) (λ e. tidy-as refl (tidy .few) tidy) (λ e. tidy)
+  step-tidy (GiveUp c) j = give-up-tidy c
+  step-tidy Forget j = tidy-as refl (tidy .few) tidy

@@ -1,0 +1,6 @@
+pub mod World
+pub mod Serve
+pub mod Steps
+pub mod Lent
+pub mod Fresh
+pub mod Unique
