@@ -70,21 +70,28 @@ fn clauses(mut text: &str) -> Vec<(&str, &str)> {
     }
 }
 
+/// The path of the type of an `impl`: at the root of its crate where the file imports it from there, else in the file's module.
+fn path_of(owner: &str, text: &str, prefix: &str) -> String {
+    let imported = format!("use crate::{owner};");
+    let home = if text.lines().any(|l| l == imported) { prefix.split("::").next().unwrap() } else { prefix };
+    format!("{home}::{owner}")
+}
+
 /// The public functions of one file; `prefix` is the path of its module.
 fn functions(text: &str, prefix: &str) -> Vec<Function> {
     let mut found = Vec::new();
-    let mut owner = String::new();
+    let mut owner = prefix.to_string();
     let mut at = 0;
     for line in text.split_inclusive('\n') {
         if let Some(rest) = line.strip_prefix("impl ") {
-            owner = format!("{}::", rest.trim_end().trim_end_matches('{').trim());
+            owner = path_of(rest.trim_end().trim_end_matches('{').trim(), text, prefix);
         } else if line.trim_end() == "}" {
-            owner.clear();
+            owner = prefix.to_string();
         }
         if let Some(name) = begins(line) {
             let said = clauses(&text[at..]);
             found.push(Function {
-                name: format!("{prefix}::{owner}{name}"),
+                name: format!("{owner}::{name}"),
                 requires: said.iter().any(|c| c.0 == "requires"),
                 ensures: said.iter().filter(|c| c.0 == "ensures").map(|c| as_written(c.1)).collect(),
             });
@@ -274,16 +281,16 @@ fn every_edit_still_applies() {
 
 #[test]
 fn the_reader_of_sources_sees_what_it_should() {
-    let text = "impl A {\n    pub fn one(self) -> u8\n        ensures { λ r. ⌜ r ≡ 1 ⌝ }\n    {\n        1\n    }\n}\n\n\
+    let text = "use crate::B;\n\nimpl B {\n    pub fn none() {\n    }\n}\n\nimpl A {\n    pub fn one(self) -> u8\n        ensures { λ r. ⌜ r ≡ 1 ⌝ }\n    {\n        1\n    }\n}\n\n\
         pub fn two(x: u8)\n    ensures {\n        λ _. ⌜ IsTwo {n = 2}\n          x ⌝\n    }\n    requires { ⌜ x ≡ 0 ⌝ }\n{\n}\n\n\
         pub(crate) fn three() {\n}\n\n\
         #[no_mangle]\npub extern \"C\" fn four(\n    mem: &mut [u8],\n    x: u8,\n) -> u8\n    \
         ensures { λ r. ⌜ IsFour (now (mem .entry)) x r (now (mem .exit)) ⌝ }\n{\n    0\n}\n\npub fn five() {\n}\n";
-    let f = functions(text, "c");
+    let f = functions(text, "c::m");
     let names: Vec<&str> = f.iter().map(|f| f.name.as_str()).collect();
-    assert_eq!(names, ["c::A::one", "c::two", "c::four", "c::five"]);
-    assert!(!f[0].requires && f[0].ensures == ["r ≡ 1"]);
-    assert!(f[1].requires && f[1].ensures == ["IsTwo {n = 2} x"]);
-    assert!(!f[2].requires && f[2].ensures == ["IsFour (mem) x r (mem′)"]);
-    assert!(!f[3].requires && f[3].ensures.is_empty());
+    assert_eq!(names, ["c::B::none", "c::m::A::one", "c::m::two", "c::m::four", "c::m::five"]);
+    assert!(!f[1].requires && f[1].ensures == ["r ≡ 1"]);
+    assert!(f[2].requires && f[2].ensures == ["IsTwo {n = 2} x"]);
+    assert!(!f[3].requires && f[3].ensures == ["IsFour (mem) x r (mem′)"]);
+    assert!(!f[4].requires && f[4].ensures.is_empty());
 }

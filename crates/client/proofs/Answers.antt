@@ -5,9 +5,9 @@ use types.Run.{OneOf, miss}
 use denote.Enum.Declared.{tagOf}
 use Rattle.num.specs.declared.Position.{Position}
 use Rattle.client.specs.Message.{ifHeld, ifGiven, ifFine, ifShown, ifEdge}
-use Rattle.client.specs.declared.message.Reply.{Reply}
-use Rattle.client.specs.declared.message.Reply.the-variants.{Held, Given, Fine, Shown, Edge, Refused}
-use Rattle.client.proofs.message.Reply as T
+use Rattle.client.specs.declared.Reply.{Reply}
+use Rattle.client.specs.declared.Reply.the-variants.{Held, Given, Fine, Shown, Edge, Refused}
+use Rattle.client.proofs.Reply as T
 
 module _ {A : Type 0} where
   pub not-held : (a : Reply) → OneOf (1 ∷ 2 ∷ 3 ∷ 4 ∷ 5 ∷ []) (tagOf T.the-type a) → (x d : A) → ifHeld a x d ≡ d

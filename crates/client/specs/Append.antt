@@ -4,10 +4,10 @@ use mathlib.Core.Bool.{cond, _||_}
 use lib.Dec.{eqb, ltb, leb}
 use Rattle.num.specs.Limits.{limit}
 use Rattle.num.specs.declared.Position.{Position}
-use Rattle.client.specs.declared.message.Ask.the-variants.{Token, Write}
-use Rattle.client.specs.declared.message.Reply.{Reply}
-use Rattle.client.specs.declared.state.Stage.the-variants.{Drawing, Writing}
-use Rattle.client.specs.declared.state.Client.{Client}
+use Rattle.client.specs.declared.Ask.the-variants.{Token, Write}
+use Rattle.client.specs.declared.Reply.{Reply}
+use Rattle.client.specs.declared.Stage.the-variants.{Drawing, Writing}
+use Rattle.client.specs.declared.Client.{Client}
 use Rattle.client.specs.declared.turn.Turn.{Turn}
 use Rattle.client.specs.Message.{numberOf, plain, bearing, ifGiven, ifFine}
 use Rattle.client.specs.Client.{tokenLimit, inStage, atPosition}

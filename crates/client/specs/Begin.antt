@@ -5,10 +5,10 @@ use mathlib.Core.List.{List, [], _∷_, _++_}
 use lib.Dec.{eqb, leb}
 use Rattle.num.specs.Checks.{Check, lowest, _if_}
 use Rattle.layout.specs.Value.{blank}
-use Rattle.client.specs.declared.message.Ask.the-variants.{Fetch}
+use Rattle.client.specs.declared.Ask.the-variants.{Fetch}
 use Rattle.client.specs.declared.state.Job.{Job}
-use Rattle.client.specs.declared.state.Stage.the-variants.{Fetching}
-use Rattle.client.specs.declared.state.Client.{Client}
+use Rattle.client.specs.declared.Stage.the-variants.{Fetching}
+use Rattle.client.specs.declared.Client.{Client}
 use Rattle.client.specs.declared.turn.Turn.{Turn}
 use Rattle.client.specs.declared.begin.Begun.{Begun}
 use Rattle.client.specs.declared.begin.Restarted.{Restarted}

@@ -2,11 +2,11 @@
 use Prim.Native.Nat.{ℕ}
 use mathlib.Core.Bool.{cond}
 use lib.Dec.{eqb}
-use Rattle.client.specs.declared.message.Ask.the-variants.{Write, Read}
-use Rattle.client.specs.declared.message.Page.{Page}
-use Rattle.client.specs.declared.message.Reply.{Reply}
-use Rattle.client.specs.declared.state.Stage.the-variants.{Filling, Looking}
-use Rattle.client.specs.declared.state.Client.{Client}
+use Rattle.client.specs.declared.Ask.the-variants.{Write, Read}
+use Rattle.client.specs.declared.Page.{Page}
+use Rattle.client.specs.declared.Reply.{Reply}
+use Rattle.client.specs.declared.Stage.the-variants.{Filling, Looking}
+use Rattle.client.specs.declared.Client.{Client}
 use Rattle.client.specs.declared.turn.Turn.{Turn}
 use Rattle.client.specs.Message.{numberOf, plain, bearing, ifFine, ifShown}
 use Rattle.client.specs.Client.{inStage, carrying}

@@ -8,10 +8,10 @@ use Rattle.num.specs.Limits.{limit}
 use Rattle.num.specs.Checks.{Check, lowest, _if_}
 use Rattle.num.specs.declared.Position.{Position}
 use Rattle.layout.specs.Value.{padded}
-use Rattle.client.specs.declared.message.Page.{Page}
-use Rattle.client.specs.declared.state.Work.{Work}
-use Rattle.client.specs.declared.state.Work.the-variants.{Append, Read, Fill, Trim, Prune, Reorganise}
-use Rattle.client.specs.declared.state.Change.{Change}
+use Rattle.client.specs.declared.Page.{Page}
+use Rattle.client.specs.declared.Work.{Work}
+use Rattle.client.specs.declared.Work.the-variants.{Append, Read, Fill, Trim, Prune, Reorganise}
+use Rattle.client.specs.declared.Change.{Change}
 use Rattle.client.specs.declared.state.Job.{Job}
 use Rattle.client.specs.Message.{pageLimit, noPage, junk}
 use Rattle.client.specs.Client.{noChange}

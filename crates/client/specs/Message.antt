@@ -4,13 +4,13 @@ use lib.ListN.{replicate}
 use Rattle.num.specs.declared.Position.{Position}
 use Rattle.layout.specs.declared.Layout.{Layout}
 use Rattle.layout.specs.Value.{blank}
-use Rattle.client.specs.declared.message.Page.{Page}
-use Rattle.client.specs.declared.message.Ask.{Ask}
-use Rattle.client.specs.declared.message.Ask.the-variants.{Fetch, Offer}
-use Rattle.client.specs.declared.message.Query.{Query}
-use Rattle.client.specs.declared.message.Reply.{Reply}
-use Rattle.client.specs.declared.message.Response.{Response}
-use Rattle.client.specs.declared.message.Reply.the-variants.{Held, Given, Fine, Shown, Edge, Refused}
+use Rattle.client.specs.declared.Page.{Page}
+use Rattle.client.specs.declared.Ask.{Ask}
+use Rattle.client.specs.declared.Ask.the-variants.{Fetch, Offer}
+use Rattle.client.specs.declared.Query.{Query}
+use Rattle.client.specs.declared.Reply.{Reply}
+use Rattle.client.specs.declared.Response.{Response}
+use Rattle.client.specs.declared.Reply.the-variants.{Held, Given, Fine, Shown, Edge, Refused}
 
 -- data pages hold 0 to 32 bytes
 abbrev pub pageLimit : ℕ

@@ -1,11 +1,11 @@
 -- Read: ask the tail. The outcome bears the epoch.
 use mathlib.Core.Bool.{cond}
 use Prim.Native.Nat.{ℕ}
-use Rattle.client.specs.declared.message.Ask.the-variants.{Read}
-use Rattle.client.specs.declared.message.Page.{Page}
-use Rattle.client.specs.declared.message.Reply.{Reply}
-use Rattle.client.specs.declared.state.Stage.the-variants.{Reading}
-use Rattle.client.specs.declared.state.Client.{Client}
+use Rattle.client.specs.declared.Ask.the-variants.{Read}
+use Rattle.client.specs.declared.Page.{Page}
+use Rattle.client.specs.declared.Reply.{Reply}
+use Rattle.client.specs.declared.Stage.the-variants.{Reading}
+use Rattle.client.specs.declared.Client.{Client}
 use Rattle.client.specs.declared.turn.Turn.{Turn}
 use Rattle.client.specs.Message.{numberOf, plain, ifShown}
 use Rattle.client.specs.Client.{inStage}

@@ -4,10 +4,10 @@ use mathlib.Core.Bool.{cond}
 use lib.Dec.{eqb, ltb, leb}
 use Rattle.num.specs.Limits.{limit}
 use Rattle.num.specs.declared.Position.{Position}
-use Rattle.client.specs.declared.message.Ask.the-variants.{Seal, Start}
-use Rattle.client.specs.declared.message.Reply.{Reply}
-use Rattle.client.specs.declared.state.Stage.the-variants.{Sealing, Offering, Starting}
-use Rattle.client.specs.declared.state.Client.{Client}
+use Rattle.client.specs.declared.Ask.the-variants.{Seal, Start}
+use Rattle.client.specs.declared.Reply.{Reply}
+use Rattle.client.specs.declared.Stage.the-variants.{Sealing, Offering, Starting}
+use Rattle.client.specs.declared.Client.{Client}
 use Rattle.client.specs.declared.turn.Turn.{Turn}
 use Rattle.client.specs.Message.{numberOf, plain, offering, ifFine, ifEdge}
 use Rattle.client.specs.Client.{inStage, planning}

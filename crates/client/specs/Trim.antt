@@ -2,10 +2,10 @@
 use Prim.Native.Nat.{ℕ}
 use mathlib.Core.Bool.{cond}
 use lib.Dec.{eqb}
-use Rattle.client.specs.declared.message.Ask.the-variants.{Trim, Prune}
-use Rattle.client.specs.declared.message.Reply.{Reply}
-use Rattle.client.specs.declared.state.Stage.the-variants.{Trimming, Pruning}
-use Rattle.client.specs.declared.state.Client.{Client}
+use Rattle.client.specs.declared.Ask.the-variants.{Trim, Prune}
+use Rattle.client.specs.declared.Reply.{Reply}
+use Rattle.client.specs.declared.Stage.the-variants.{Trimming, Pruning}
+use Rattle.client.specs.declared.Client.{Client}
 use Rattle.client.specs.declared.turn.Turn.{Turn}
 use Rattle.client.specs.Message.{numberOf, plain, ifFine}
 use Rattle.client.specs.Client.{inStage}

@@ -3,11 +3,11 @@ use Prim.Native.Nat.{ℕ, _+_}
 use mathlib.Core.Bool.{cond}
 use lib.Dec.{eqb, leb}
 use Rattle.num.specs.declared.Request.{Request}
-use Rattle.client.specs.declared.message.Page.{Page}
-use Rattle.client.specs.declared.message.Query.{Query}
-use Rattle.client.specs.declared.state.Client.{Client}
-use Rattle.client.specs.declared.turn.Act.the-variants.{Rests, Sends, Ends}
-use Rattle.client.specs.declared.turn.Outcome.{Outcome}
+use Rattle.client.specs.declared.Page.{Page}
+use Rattle.client.specs.declared.Query.{Query}
+use Rattle.client.specs.declared.Client.{Client}
+use Rattle.client.specs.declared.Act.the-variants.{Rests, Sends, Ends}
+use Rattle.client.specs.declared.Outcome.{Outcome}
 use Rattle.client.specs.declared.turn.Turn.{Turn}
 use Rattle.client.specs.Message.{noPage, noQuery}
 use Rattle.client.specs.Client.{lastNumber, idle}

@@ -3,17 +3,17 @@ use Prim.Native.Nat.{ℕ}
 use mathlib.Core.Bool.{Bool}
 use mathlib.Core.List.{List}
 use mathlib.Core.Path.{_≡_, sym, _∙_}
-use Rattle.client.specs.declared.message.Page.{Page}
-use Rattle.client.specs.declared.message.Query.{Query}
-use Rattle.client.specs.declared.message.Reply.{Reply}
-use Rattle.client.specs.declared.message.Response.{Response}
-use Rattle.client.specs.declared.message.Stamp.{Stamp}
-use Rattle.client.specs.declared.state.Work.{Work}
-use Rattle.client.specs.declared.state.Change.{Change}
+use Rattle.client.specs.declared.Page.{Page}
+use Rattle.client.specs.declared.Query.{Query}
+use Rattle.client.specs.declared.Reply.{Reply}
+use Rattle.client.specs.declared.Response.{Response}
+use Rattle.client.specs.declared.Stamp.{Stamp}
+use Rattle.client.specs.declared.Work.{Work}
+use Rattle.client.specs.declared.Change.{Change}
 use Rattle.client.specs.declared.state.Job.{Job}
-use Rattle.client.specs.declared.state.Stage.{Stage}
-use Rattle.client.specs.declared.state.Client.{Client}
-use Rattle.client.specs.declared.turn.Outcome.{Outcome}
+use Rattle.client.specs.declared.Stage.{Stage}
+use Rattle.client.specs.declared.Client.{Client}
+use Rattle.client.specs.declared.Outcome.{Outcome}
 use Rattle.client.specs.declared.turn.Turn.{Turn}
 use Rattle.client.specs.declared.begin.Begun.{Begun}
 use Rattle.client.specs.declared.begin.Restarted.{Restarted}

@@ -9,8 +9,8 @@ use Rattle.layout.specs.declared.plan.Started.{Started}
 use Rattle.layout.specs.Value.{layOf}
 use Rattle.layout.specs.Places.{headOf, tailOf, after, unitsAt, nextUnit}
 use Rattle.layout.specs.Plan.{plannedFor, startedAt}
-use Rattle.client.specs.declared.state.Change.{Change}
-use Rattle.client.specs.declared.state.Client.{Client}
+use Rattle.client.specs.declared.Change.{Change}
+use Rattle.client.specs.declared.Client.{Client}
 
 -- the units of the set of the position under way
 abbrev pub unitsFor : Client → List ℕ

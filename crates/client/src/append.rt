@@ -1,12 +1,12 @@
 // Append: take a token, write head to tail.
 ghost use mathlib.Core.Path.{_≡_};
 ghost use Rattle.client.specs.Append.{draws, writes, writesAt, onToken, writesOn, notAtHead, notLater, notWritten, onWritten};
-use crate::message::Ask;
-use crate::message::Query;
-use crate::message::Reply;
+use crate::Ask;
+use crate::Client;
+use crate::Query;
+use crate::Reply;
+use crate::Stage;
 use crate::message::number_of;
-use crate::state::Client;
-use crate::state::Stage;
 use crate::turn::Turn;
 use crate::turn::ends;
 use crate::turn::otherwise;

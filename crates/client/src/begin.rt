@@ -1,15 +1,15 @@
 // An operation begins, is given up, or is forgotten with the client's life.
 ghost use mathlib.Core.Path.{_≡_};
 ghost use Rattle.client.specs.Begin.{readyAnswer, beginAnswer, withJob, beginStep, giveUp, restartStep};
+use crate::Ask;
+use crate::Client;
+use crate::Query;
+use crate::Stage;
 use crate::job::change_for;
 use crate::job::job_answer;
 use crate::job::page_for;
 use crate::job::position_for;
-use crate::message::Ask;
-use crate::message::Query;
-use crate::state::Client;
 use crate::state::Job;
-use crate::state::Stage;
 use crate::turn::Turn;
 use crate::turn::ends;
 use crate::turn::rests;

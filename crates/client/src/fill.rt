@@ -1,13 +1,13 @@
 // Fill: write junk at the head, or carry on what it holds; then on to the tail.
 ghost use mathlib.Core.Path.{_≡_};
 ghost use Rattle.client.specs.Fill.{fills, looks, fillsOn, notFilled, onFilled, onLooked};
-use crate::message::Ask;
-use crate::message::Page;
-use crate::message::Query;
-use crate::message::Reply;
+use crate::Ask;
+use crate::Client;
+use crate::Page;
+use crate::Query;
+use crate::Reply;
+use crate::Stage;
 use crate::message::number_of;
-use crate::state::Client;
-use crate::state::Stage;
 use crate::turn::Turn;
 use crate::turn::ends;
 use crate::turn::otherwise;

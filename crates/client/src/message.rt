@@ -1,61 +1,15 @@
 // What a client sends and what is handed back to it. An enum holds no array, so a page and a layout stand beside it.
 ghost use mathlib.Core.Path.{_≡_};
 ghost use Rattle.client.specs.Message.{noPage, noQuery, noResponse, junk, numberOf, plain, bearing, offering};
+use crate::Ask;
+use crate::Page;
+use crate::Query;
+use crate::Reply;
+use crate::Response;
 use layout::Layout;
 use num::Epoch;
 use num::Position;
 use num::Request;
-
-// Data or junk: `len` bytes, and blank past them.
-pub struct Page {
-    pub kind: u8,
-    pub len: u8,
-    pub bytes: [u8; 32],
-}
-
-// What is asked, and of which unit (the first number of those that go to one).
-pub enum Ask {
-    Fetch,
-    Token(Epoch),
-    Write(u8, Epoch, Position),
-    Read(u8, Epoch, Position),
-    Trim(u8, Epoch, Position),
-    Prune(u8, Epoch, Position),
-    Seal(u8, Epoch),
-    Offer,
-    Start(Epoch, Position),
-}
-
-// A request: the page of a write and the layout of an offer are blank elsewhere.
-pub struct Query {
-    pub ask: Ask,
-    pub page: Page,
-    pub layout: Layout,
-}
-
-// What was answered: a layout is held, a token given, the work done, a page shown, an edge told, or a number.
-pub enum Reply {
-    Held,
-    Given(Position),
-    Fine,
-    Shown,
-    Edge(Position),
-    Refused(u8),
-}
-
-// An answer: the page shown and the layout held are blank elsewhere.
-pub struct Response {
-    pub reply: Reply,
-    pub page: Page,
-    pub layout: Layout,
-}
-
-// A request bears client, life and number, and so does its answer.
-pub struct Stamp {
-    pub client: u8,
-    pub life: u16,
-    pub number: Request,
-}
 
 impl Page {
     // Bytes that a data page may hold.

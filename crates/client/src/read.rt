@@ -1,13 +1,13 @@
 // Read: ask the tail.
 ghost use mathlib.Core.Path.{_≡_};
 ghost use Rattle.client.specs.Read.{reads, onRead};
-use crate::message::Ask;
-use crate::message::Page;
-use crate::message::Query;
-use crate::message::Reply;
+use crate::Ask;
+use crate::Client;
+use crate::Page;
+use crate::Query;
+use crate::Reply;
+use crate::Stage;
 use crate::message::number_of;
-use crate::state::Client;
-use crate::state::Stage;
 use crate::turn::Turn;
 use crate::turn::otherwise;
 use crate::turn::over;

@@ -1,12 +1,12 @@
 // Reorganise: seal every unit of the new layout with the held epoch, in rising number; offer the layout; start the sequencer.
 ghost use mathlib.Core.Path.{_≡_};
 ghost use Rattle.client.specs.Reorganise.{seals, offers, allSealed, sealsOn, reorganises, larger, sealedAt, onSealed, starts, onOffered, notStarted, onStarted};
-use crate::message::Ask;
-use crate::message::Query;
-use crate::message::Reply;
+use crate::Ask;
+use crate::Client;
+use crate::Query;
+use crate::Reply;
+use crate::Stage;
 use crate::message::number_of;
-use crate::state::Client;
-use crate::state::Stage;
 use crate::turn::Turn;
 use crate::turn::ends;
 use crate::turn::otherwise;

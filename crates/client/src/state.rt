@@ -1,30 +1,17 @@
 // A client between two steps. What an operation does not use is blank.
 ghost use mathlib.Core.Path.{_≡_};
 ghost use Rattle.client.specs.Client.{jobOf, appendOf, reorganiseOf, fresh, idle, noChange, busy, inStage, atPosition, carrying, holding, planning};
-use crate::message::Page;
+use crate::Change;
+use crate::Client;
+use crate::Page;
+use crate::Stage;
+use crate::Work;
 use layout::Chain;
 use layout::Layout;
-use layout::plan::Wish;
+use layout::Wish;
 use num::Epoch;
 use num::Position;
 use num::Request;
-
-// What is asked of a client.
-pub enum Work {
-    Append,
-    Read(Position),
-    Fill(Position),
-    Trim(Position),
-    Prune(Position),
-    Reorganise,
-}
-
-// What a reorganise changes: units to drop, the first `count`, and new sets if wanted.
-pub struct Change {
-    pub count: u8,
-    pub drops: [u8; 8],
-    pub wish: Wish,
-}
 
 // An operation as it is asked for: an append brings its data, a reorganise its change.
 pub struct Job {
@@ -32,38 +19,6 @@ pub struct Job {
     pub len: u8,
     pub bytes: [u8; 32],
     pub change: Change,
-}
-
-// What the outstanding request is, with the unit it went to, the tokens taken so far, the largest edge so far,
-// and where the sequencer is to start.
-pub enum Stage {
-    Idle,
-    Fetching,
-    Drawing(u8),
-    Writing(u8, u8),
-    Reading(u8),
-    Filling(u8),
-    Looking(u8),
-    Trimming(u8),
-    Pruning(u8),
-    Sealing(u8, Position),
-    Offering(Position),
-    Starting,
-}
-
-// `used`: how many request numbers of this life are used, which is the last one; `begun`: how many were when the operation began.
-// `page` is the page carried, `position` the position under way, `layout` the one fetched, `plan` the one to be offered.
-pub struct Client {
-    pub life: u16,
-    pub used: Request,
-    pub begun: Request,
-    pub stage: Stage,
-    pub work: Work,
-    pub change: Change,
-    pub position: Position,
-    pub page: Page,
-    pub layout: Layout,
-    pub plan: Layout,
 }
 
 impl Change {

@@ -1,12 +1,12 @@
 // Trim: head to tail. Prune: every unit of the layout in rising number.
 ghost use mathlib.Core.Path.{_≡_};
 ghost use Rattle.client.specs.Trim.{trims, trimsOn, onTrimmed, prunes, prunesOn, onPruned};
-use crate::message::Ask;
-use crate::message::Query;
-use crate::message::Reply;
+use crate::Ask;
+use crate::Client;
+use crate::Query;
+use crate::Reply;
+use crate::Stage;
 use crate::message::number_of;
-use crate::state::Client;
-use crate::state::Stage;
 use crate::turn::Turn;
 use crate::turn::ends;
 use crate::turn::otherwise;

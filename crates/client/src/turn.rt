@@ -1,27 +1,15 @@
 // What comes of a step at a client: it rests, a request is sent, or its operation ends.
 ghost use mathlib.Core.Path.{_≡_};
 ghost use Rattle.client.specs.Turn.{noOutcome, outcomeOf, rests, over, ends, numbered, sends, otherwise};
-use crate::message::Page;
-use crate::message::Query;
-use crate::state::Client;
+use crate::Act;
+use crate::Client;
+use crate::Outcome;
+use crate::Page;
+use crate::Query;
 use num::Epoch;
 use num::Position;
 use num::Request;
 use num::answer::Answer;
-
-pub enum Act {
-    Rests,
-    Sends(Request),
-    Ends,
-}
-
-// How an operation ended: its number, the position under way, the epoch of the layout it fetched, and the page that a read was shown.
-pub struct Outcome {
-    pub number: u8,
-    pub position: Position,
-    pub epoch: Epoch,
-    pub page: Page,
-}
 
 // The client afterwards; the request where one is sent, and the outcome where the operation ends.
 pub struct Turn {

@@ -11,7 +11,7 @@ use lib.Seq.{sets}
 use Rattle.num.specs.Checks.{lowest}
 use Rattle.num.proofs.Tests.{cond-zero}
 use Rattle.layout.specs.declared.Layout.{Layout}
-use Rattle.layout.specs.declared.plan.Wish.{Wish}
+use Rattle.layout.specs.declared.Wish.{Wish}
 use Rattle.layout.specs.declared.plan.Planned.{Planned}
 use Rattle.layout.specs.declared.plan.Started.{Started}
 use Rattle.layout.specs.Lay.{good}

@@ -11,7 +11,7 @@ use lib.Seq.{take-nil, take-all}
 use Rattle.num.specs.Checks.{lowest}
 use Rattle.num.proofs.Tests.{and-both, or-false, cond-zero}
 use Rattle.layout.specs.declared.Layout.{Layout}
-use Rattle.layout.specs.declared.plan.Wish.{Wish}
+use Rattle.layout.specs.declared.Wish.{Wish}
 use Rattle.layout.specs.Lay.{Lay, goodSet, goodSets, _in?_, inSets, unitLimit, setsLimit}
 use Rattle.layout.specs.Value.{padded, noChain, chainOf, unitsIn, layOf, goodValue, tidyChain}
 use Rattle.layout.specs.Codec.{setsSaid, setsAt, areSets, setsName, wishSaid}

@@ -6,7 +6,7 @@ use mathlib.Core.Path.{_≡_}
 use lib.Dec.{eqb}
 use lib.ListN.{replicate}
 use Rattle.layout.specs.declared.Layout.{Layout}
-use Rattle.layout.specs.declared.plan.Wish.{Wish}
+use Rattle.layout.specs.declared.Wish.{Wish}
 use Rattle.layout.specs.Value.{noChain, blank}
 use Rattle.layout.specs.Codec.{setsSaid, areSets}
 use Rattle.desk.specs.Told.{madeAnswer, newLayout}

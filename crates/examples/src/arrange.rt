@@ -3,15 +3,14 @@ ghost use Prim.Native.Nat.{_<_};
 use crate::script::Do;
 use crate::script::Line;
 use crate::script::byte;
-use client::state::Client;
+use client::Client;
 use kept::Kept;
 use layout::Chain;
 use num::Epoch;
 use num::Position;
 use num::Request;
+use rule::Letter;
 use rule::Yard;
-use say::number;
-use say::text;
 use unit::write::write;
 
 fn half(n: u64) -> u32 {
@@ -38,69 +37,44 @@ fn unit_start(u: u64) -> usize
     ((u - 1) % 8) as usize * 6168
 }
 
-fn with_yard(kept: Kept, yard: Yard) -> Kept {
-    let sequencer = kept.sequencer;
-    let table = kept.table;
-    Kept {
-        yard,
-        sequencer,
-        table,
+// Client `n` has used so many numbers of its life, or is in such a life.
+fn with_client(mut clients: [Client; 4], what: u64, n: u64, m: u64) -> [Client; 4] {
+    let at = client_index(n);
+    let mut client = clients[at];
+    if what == Do::USED {
+        let numbers = Request(half(m));
+        client.used = numbers;
+    } else {
+        client.life = (m % 65_536) as u16;
     }
-}
-
-fn with_client(kept: Kept, c: u64, client: Client) -> Kept {
-    let at = client_index(c);
-    let mut yard = kept.yard;
-    let mut clients = yard.clients;
     clients[at] = client;
-    yard.clients = clients;
-    with_yard(kept, yard)
+    clients
 }
 
-fn client_at(kept: Kept, c: u64) -> Client {
-    let at = client_index(c);
-    let yard = kept.yard;
-    let clients = yard.clients;
-    clients[at]
-}
-
-// Client `c` has used so many numbers of its life.
-fn with_numbers(kept: Kept, c: u64, used: u64) -> Kept {
-    let mut client = client_at(kept, c);
-    let numbers = Request(half(used));
-    client.used = numbers;
-    with_client(kept, c, client)
-}
-
-fn with_life(kept: Kept, c: u64, life: u64) -> Kept {
-    let mut client = client_at(kept, c);
-    client.life = (life % 65_536) as u16;
-    with_client(kept, c, client)
-}
-
-// The held layout is of another epoch, or has another count of sets.
-fn with_held(kept: Kept, epoch: u64, sets: u64) -> Kept {
-    let mut yard = kept.yard;
-    let mut held = yard.held;
-    let now = Epoch(half(epoch));
-    held.epoch = now;
-    held.set_count = byte(sets);
-    yard.held = held;
-    with_yard(kept, yard)
-}
-
-fn with_count(kept: Kept, count: u64) -> Kept {
-    let mut yard = kept.yard;
-    yard.count = byte(count);
-    with_yard(kept, yard)
+// A client is changed, or the count of letters; or the held layout is of another epoch, or has another count of sets.
+fn with_yard(mut yard: Yard, what: u64, n: u64, m: u64) -> Yard {
+    match what {
+        Do::USED | Do::LIFE => {
+            let clients = yard.clients;
+            let changed = with_client(clients, what, n, m);
+            yard.clients = changed;
+        }
+        Do::HELD => {
+            let mut held = yard.held;
+            let now = Epoch(half(n));
+            held.epoch = now;
+            held.set_count = byte(m);
+            yard.held = held;
+        }
+        Do::COUNT => yard.count = byte(n),
+        _ => {}
+    }
+    yard
 }
 
 // In the layout of the letter at a place the first set is that unit alone.
-fn with_offer(kept: Kept, place: u64, u: u64) -> Kept {
+fn with_offer(mut table: [Letter; 32], place: u64, u: u64) -> [Letter; 32] {
     let at = (place % 32) as usize;
-    let yard = kept.yard;
-    let sequencer = kept.sequencer;
-    let mut table = kept.table;
     let mut letter = table[at];
     let mut offered = letter.layout;
     offered.sets[0] = Chain {
@@ -109,11 +83,7 @@ fn with_offer(kept: Kept, place: u64, u: u64) -> Kept {
     };
     letter.layout = offered;
     table[at] = letter;
-    Kept {
-        yard,
-        sequencer,
-        table,
-    }
+    table
 }
 
 // One byte of a unit's memory.
@@ -141,30 +111,6 @@ fn put_pages(units: &mut [u8], u: u64, pages: u64) {
     }
 }
 
-fn say_what(what: u64) {
-    match what {
-        Do::USED => text(b"client, numbers used: "),
-        Do::LIFE => text(b"client, life: "),
-        Do::HELD => text(b"held epoch, sets: "),
-        Do::COUNT => text(b"letters counted: "),
-        Do::OFFER => text(b"letter, unit of its first set: "),
-        Do::BYTE => text(b"unit, offset, byte: "),
-        _ => text(b"unit, pages: "),
-    }
-}
-
-// What is arranged, with its numbers.
-pub(crate) fn say_arranged(row: Line) {
-    text(b"   (arranged: ");
-    say_what(row[1]);
-    number(row[2]);
-    text(b" ");
-    number(row[3]);
-    text(b" ");
-    number(row[4]);
-    text(b")\n");
-}
-
 // A change of a unit memory.
 pub(crate) fn arrange_units(units: &mut [u8], row: Line) {
     let what = row[1];
@@ -179,16 +125,18 @@ pub(crate) fn arrange_units(units: &mut [u8], row: Line) {
 }
 
 // A change of what is kept by value.
-pub(crate) fn arrange(kept: Kept, row: Line) -> Kept {
+pub(crate) fn arrange(mut kept: Kept, row: Line) -> Kept {
     let what = row[1];
     let n = row[2];
     let m = row[3];
-    match what {
-        Do::USED => with_numbers(kept, n, m),
-        Do::LIFE => with_life(kept, n, m),
-        Do::HELD => with_held(kept, n, m),
-        Do::COUNT => with_count(kept, n),
-        Do::OFFER => with_offer(kept, n, m),
-        _ => kept,
+    if what == Do::OFFER {
+        let table = kept.table;
+        let next = with_offer(table, n, m);
+        kept.table = next;
+        return kept;
     }
+    let yard = kept.yard;
+    let next = with_yard(yard, what, n, m);
+    kept.yard = next;
+    kept
 }

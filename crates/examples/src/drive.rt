@@ -1,7 +1,6 @@
-// Takes the rows of a run one after the other, prints each step, and counts those that were not as expected.
+// Takes the rows of the scripts one after the other, prints each step, and counts those that were not as expected.
 use crate::arrange::arrange;
 use crate::arrange::arrange_units;
-use crate::arrange::say_arranged;
 use crate::first::first_layout;
 use crate::parse::Reading;
 use crate::parse::ended;
@@ -12,33 +11,62 @@ use crate::script::Seen;
 use crate::script::job_of;
 use crate::script::step_of;
 use crate::script::wanted;
+use crate::words::more;
 use crate::words::number_of;
+use crate::words::say_arranged;
 use crate::words::say_step;
 use crate::words::say_told;
+use crate::yards::scene;
 use kept::Kept;
 use kept::KeptMade;
 use kept::KeptStep;
 use kept::fresh_kept;
 use kept::step_kept;
 use num::bytes::wide;
+use rule::Letter;
 use rule::Stepped;
-use say::number;
 use say::text;
 
-// The yard between two steps, the steps so far, and how many of them were not as expected.
-pub(crate) struct Run {
-    pub kept: Kept,
+// The steps so far, and how many of them were not as expected.
+pub(crate) struct Tally {
     pub steps: u64,
     pub wrong: u64,
 }
 
-fn more(n: u64) -> u64 {
-    if n < 1_000_000 { n + 1 } else { n }
+// The yard between two steps, and the steps so far.
+struct Run {
+    pub kept: Kept,
+    pub tally: Tally,
+}
+
+// What came of a step, and the yard after it.
+struct Done {
+    pub got: Seen,
+    pub kept: Kept,
 }
 
 fn same(a: Seen, b: Seen) -> bool {
-    let told = (a[0] == b[0]) & (a[1] == b[1]) & (a[2] == b[2]);
-    told & (a[3] == b[3]) & (a[4] == b[4]) & (a[5] == b[5])
+    let mut i: usize = 0;
+    while i < 6 {
+        if a[i] != b[i] {
+            return false;
+        }
+        i += 1;
+    }
+    true
+}
+
+// Prints what came of a step, and whether it is as expected.
+fn judged(mut tally: Tally, got: Seen, want: Seen) -> Tally {
+    say_told(got);
+    tally.steps = more(tally.steps);
+    if same(got, want) {
+        text(b", as expected\n");
+    } else {
+        tally.wrong = more(tally.wrong);
+        text(b", NOT as expected\n");
+    }
+    tally
 }
 
 // What came of a step, as numbers.
@@ -55,33 +83,16 @@ fn seen(stepped: Stepped) -> Seen {
     ]
 }
 
-// Prints what came of a step, and whether it is as expected: the run with one step more.
-fn judged(run: Run, kept: Kept, got: Seen, want: Seen) -> Run {
-    let mut wrong = run.wrong;
-    say_told(got);
-    if same(got, want) {
-        text(b", as expected\n");
-    } else {
-        wrong = more(wrong);
-        text(b", NOT as expected\n");
+fn after(t: KeptStep) -> Kept {
+    let stepped = t.stepped;
+    let yard = stepped.yard;
+    let sequencer = t.sequencer;
+    let table = t.table;
+    Kept {
+        yard,
+        sequencer,
+        table,
     }
-    Run {
-        kept,
-        steps: more(run.steps),
-        wrong,
-    }
-}
-
-// The number of a step, and the step.
-fn announce(run: Run, row: Line) {
-    let kept = run.kept;
-    let table = kept.table;
-    let at = (row[2] % 32) as usize;
-    let letter = table[at];
-    text(b"  ");
-    number(more(run.steps));
-    text(b" ");
-    say_step(row, letter);
 }
 
 fn makes(units: &mut [u8], row: Line) -> KeptMade {
@@ -95,113 +106,95 @@ fn makes(units: &mut [u8], row: Line) -> KeptMade {
 }
 
 // A fresh yard; where none is made the old one stays.
-fn begins_anew(run: Run, units: &mut [u8], row: Line) -> Run {
-    announce(run, row);
+fn begins_anew(mut kept: Kept, units: &mut [u8], row: Line) -> Done {
     let made = makes(units, row);
-    let got = [wide(made.answer), 0, 0, 0, 0, 0];
-    let mut kept = run.kept;
     if made.answer == 0 {
         kept = made.kept;
     }
-    judged(run, kept, got, wanted(row, true))
-}
-
-fn after(t: KeptStep) -> Kept {
-    let stepped = t.stepped;
-    let yard = stepped.yard;
-    let sequencer = t.sequencer;
-    let table = t.table;
-    Kept {
-        yard,
-        sequencer,
-        table,
+    Done {
+        got: [wide(made.answer), 0, 0, 0, 0, 0],
+        kept,
     }
 }
 
-fn steps_on(run: Run, units: &mut [u8], row: Line, last: bool) -> Run {
-    let kept = run.kept;
-    announce(run, row);
+fn steps_on(kept: Kept, units: &mut [u8], row: Line) -> Done {
+    if row[1] == Do::FRESH {
+        return begins_anew(kept, units, row);
+    }
     let t = step_kept(kept, units, step_of(row), job_of(row));
     let stepped = t.stepped;
-    judged(run, after(t), seen(stepped), wanted(row, last))
+    let got = seen(stepped);
+    let next = after(t);
+    Done { got, kept: next }
 }
 
-fn arranges(run: Run, units: &mut [u8], row: Line) -> Run {
-    let kept = run.kept;
-    say_arranged(row);
-    arrange_units(units, row);
-    let next = arrange(kept, row);
-    Run {
-        kept: next,
-        steps: run.steps,
-        wrong: run.wrong,
-    }
+fn letter_at(kept: Kept, place: u64) -> Letter {
+    let table = kept.table;
+    let at = (place % 32) as usize;
+    table[at]
 }
 
 fn goes_on(run: Run, units: &mut [u8], row: Line, last: bool) -> Run {
-    if row[1] <= Do::FORGET {
-        return steps_on(run, units, row, last);
+    let kept = run.kept;
+    let tally = run.tally;
+    if Do::FRESH < row[1] {
+        say_arranged(row);
+        arrange_units(units, row);
+        let next = arrange(kept, row);
+        return Run { kept: next, tally };
     }
-    if row[1] == Do::FRESH {
-        return begins_anew(run, units, row);
+    say_step(more(tally.steps), row, letter_at(kept, row[2]));
+    let done = steps_on(kept, units, row);
+    let got = done.got;
+    let next = done.kept;
+    Run {
+        kept: next,
+        tally: judged(tally, got, wanted(row, last)),
     }
-    arranges(run, units, row)
 }
 
-// A row as often as it says.
-fn repeats(run: Run, units: &mut [u8], row: Line) -> Run {
-    let mut now = run;
-    let mut left = row[0];
-    while 1 < left {
-        now = goes_on(now, units, row, false);
-        left -= 1;
-    }
-    goes_on(now, units, row, true)
-}
-
-// A line that was read to its end; an empty one has nothing done.
-fn takes(run: Run, units: &mut [u8], reading: Reading) -> Run {
-    let r = ended(reading);
-    let row = r.row;
-    if row[0] == 0 {
+// The end of a line has it taken, as often as it says; an empty one has nothing done.
+fn takes(mut run: Run, units: &mut [u8], reading: Reading, b: u8) -> Run {
+    if b != b'\n' {
         return run;
     }
-    repeats(run, units, row)
-}
-
-// A run, and the line of its script that is being read.
-pub(crate) struct Scene {
-    pub run: Run,
-    pub reading: Reading,
-}
-
-// One byte more of the script: the end of a line has it taken.
-fn hears(scene: Scene, units: &mut [u8], b: u8) -> Scene {
-    let run = scene.run;
-    let reading = scene.reading;
-    if b == b'\n' {
-        let next = takes(run, units, reading);
-        let anew = Reading::start();
-        return Scene {
-            run: next,
-            reading: anew,
-        };
+    let r = ended(reading);
+    let row = r.row;
+    let mut left = row[0];
+    while 0 < left {
+        run = goes_on(run, units, row, left == 1);
+        left -= 1;
     }
-    let more = heard(reading, b);
-    Scene { run, reading: more }
+    run
 }
 
-// All lines of a script.
-pub(crate) fn play(run: Run, units: &mut [u8], script: &[u8]) -> Run {
-    let reading = Reading::start();
-    let mut now = Scene { run, reading };
+// A scene: all lines of its script, and empty ones behind them.
+fn play(mut run: Run, units: &mut [u8], k: usize) -> Run {
+    let mut script = [b'\n'; 1024];
+    scene(k, &mut script);
+    let mut reading = Reading::start();
+    let mut i: usize = 0;
+    while i < 1024 {
+        let b = script[i];
+        run = takes(run, units, reading, b);
+        reading = heard(reading, b);
+        i += 1;
+    }
+    run
+}
+
+// All scenes.
+pub(crate) fn play_all(units: &mut [u8]) -> Tally {
+    let made = fresh_kept(first_layout(1), units);
+    let kept = made.kept;
+    let mut run = Run {
+        kept,
+        tally: Tally { steps: 0, wrong: 0 },
+    };
     let mut k: usize = 0;
-    while k < script.len() {
-        let b = script[k];
-        now = hears(now, units, b);
+    while k < 13 {
+        run = play(run, units, k);
         k += 1;
     }
-    let last = now.run;
-    let rest = now.reading;
-    takes(last, units, rest)
+    run.tally
 }

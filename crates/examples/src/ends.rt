@@ -1,13 +1,11 @@
 // Where something comes to its end: the bag, the numbers, the lives, the log.
-use crate::drive::Run;
-use crate::drive::play;
+use crate::script::lay;
 
 // 31 doubled answers beside the request: 32 letters. Nothing more fits, unless a letter goes.
 // A letter is dropped, and both operations end; the doubled answers are answers to nothing.
-pub(crate) fn bag(run: Run, units: &mut [u8]) -> Run {
-    play(
-        run,
-        units,
+pub(crate) fn bag(script: &mut [u8]) {
+    lay(
+        script,
         b"# a full bag
 fresh 1
 begin 1 append 1 65
@@ -30,15 +28,14 @@ deliver 30
 deliver 0
 29 drop 0
 drop 0 = 17",
-    )
+    );
 }
 
 // The last number goes to the token: none is left for the write, nor for another begin. A new life has all its numbers.
 // The last life still works, and a restart that is refused leaves the operation as it is.
-pub(crate) fn numbers(run: Run, units: &mut [u8]) -> Run {
-    play(
-        run,
-        units,
+pub(crate) fn numbers(script: &mut [u8]) {
+    lay(
+        script,
         b"# numbers spent
 fresh 3
 used 1 4294967293
@@ -56,15 +53,14 @@ begin 1 read 1
 2 deliver 0
 restart 1 = 19
 2 deliver 0 : 1 0 1 1 data 1 65",
-    )
+    );
 }
 
 // Every position is trimmed, and eight tokens find no head.
 // The edges are 2^40: the sequencer starts there and has no token left, and no range can start there. The units are sealed by then, and another reorganise opens them.
-pub(crate) fn log(run: Run, units: &mut [u8]) -> Run {
-    play(
-        run,
-        units,
+pub(crate) fn log(script: &mut [u8]) {
+    lay(
+        script,
         b"# prune to 2^40: the log ends
 fresh 1
 begin 1 append 1 65
@@ -95,5 +91,5 @@ begin 3 reorganise 8
 10 deliver 0 : 3 0 0 2
 begin 3 read 0
 4 deliver 0 : 3 5 0 3",
-    )
+    );
 }

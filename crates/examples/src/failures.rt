@@ -1,14 +1,12 @@
 // The three failures of the old log, as runs that now end well.
-use crate::drive::Run;
-use crate::drive::play;
+use crate::script::lay;
 
 // The head has the page and the tail has not when the client dies. The tail says unwritten; the filler looks at the head and carries its page on.
 // Nothing is written yet where the filler comes: junk, which is read as junk and not as zeros. The late write finds the head taken and goes on with another token.
 // The unit that was to have the second copy stops. It is dropped, and the page of the first copy is what is read.
-pub(crate) fn between_copies(run: Run, units: &mut [u8]) -> Run {
-    play(
-        run,
-        units,
+pub(crate) fn between_copies(script: &mut [u8]) {
+    lay(
+        script,
         b"# a client dies between two copies; the filler carries on what the head holds
 fresh 1
 begin 1 append 3 65
@@ -46,15 +44,14 @@ begin 2 fill 0
 6 deliver 0 : 2 0 0 2
 begin 3 read 0
 4 deliver 0 : 3 0 0 2 data 2 67",
-    )
+    );
 }
 
 // The old tail was dropped unsealed and knows nothing of what came later: its "unwritten" is told with epoch 1, of whose layout alone it speaks.
 // Position 0 is given out in both epochs. The late write reaches the dropped head, but not the sealed tail: it is never done, and no reader sees it.
-pub(crate) fn two_stations(run: Run, units: &mut [u8]) -> Run {
-    play(
-        run,
-        units,
+pub(crate) fn two_stations(script: &mut [u8]) {
+    lay(
+        script,
         b"# one position asked at two stations: the old tail's answer is of the old epoch
 fresh 1
 begin 3 read 0
@@ -85,15 +82,14 @@ begin 1 append 1 65
 6 deliver 0 : 1 0 1 2
 begin 4 read 1
 4 deliver 0 : 4 0 1 2 data 1 65",
-    )
+    );
 }
 
 // Unit 2 is the tail of one fix and the head of the other. It stops and is dropped; both are read from what is left.
 // A new range comes above the last start, 10; then one of its units stops too.
-pub(crate) fn acknowledged(run: Run, units: &mut [u8]) -> Run {
-    play(
-        run,
-        units,
+pub(crate) fn acknowledged(script: &mut [u8]) {
+    lay(
+        script,
         b"# acknowledged fixes after a dead station is dropped
 fresh 2
 begin 1 append 4 65
@@ -128,5 +124,5 @@ begin 3 read 0
 4 deliver 0 : 3 0 0 4 data 4 65
 begin 3 read 2
 4 deliver 0 : 3 0 2 4 data 4 67",
-    )
+    );
 }

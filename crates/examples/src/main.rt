@@ -1,5 +1,5 @@
 // The paper's marked examples, then longer runs of the yard: what each row and each step answers and ends is printed, and compared with what is expected.
-use crate::yards::yards;
+use crate::drive::play_all;
 use marked::wrong_rows;
 use rule::Yard;
 use say::number;
@@ -20,7 +20,7 @@ mod yards;
 // Runs every scene of the yard, and prints how many of its steps were as expected.
 fn yard_runs() {
     let mut units = [0u8; Yard::SIZE];
-    let ran = yards(&mut units);
+    let ran = play_all(&mut units);
     number(ran.steps);
     text(b" steps, ");
     number(if ran.wrong <= ran.steps {

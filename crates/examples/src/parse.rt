@@ -142,8 +142,11 @@ fn mark(r: Reading, b: u8) -> Reading {
     next
 }
 
-// One byte more; any that is neither a digit nor a letter ends a number or a word.
+// One byte more: after the end of a line another starts; any other that is neither a digit nor a letter ends a number or a word.
 pub(crate) fn heard(r: Reading, b: u8) -> Reading {
+    if b == b'\n' {
+        return Reading::start();
+    }
     if (b == b'#') | (r.within == 3) {
         return title_on(r, b);
     }

@@ -1,13 +1,11 @@
 // Each refusal that the other runs do not meet.
-use crate::drive::Run;
-use crate::drive::play;
+use crate::script::lay;
 
 // Memories too short, a layout of another epoch, a layout that is not good: no yard is made, and the old one stays.
 // A memory of another unit or with a spare byte set, a held layout without sets, a count above 32: the lowest number first, and nothing changes.
-pub(crate) fn lent(run: Run, units: &mut [u8]) -> Run {
-    play(
-        run,
-        units,
+pub(crate) fn lent(script: &mut [u8]) {
+    lay(
+        script,
         b"# what a fresh yard is lent
 fresh 1
 begin 1 append 1 65
@@ -37,14 +35,13 @@ begin 1 read 1099511627776 = 16
 count 0
 begin 1 append 1 65
 8 deliver 0 : 1 0 0 1",
-    )
+    );
 }
 
 // No such client, unit or letter; a unit that has stopped; a client that is busy; a position or a page that no unit has.
-pub(crate) fn nobody(run: Run, units: &mut [u8]) -> Run {
-    play(
-        run,
-        units,
+pub(crate) fn nobody(script: &mut [u8]) {
+    lay(
+        script,
         b"# the yard's own checks
 fresh 1
 begin 0 read 0 = 17
@@ -67,15 +64,14 @@ begin 1 read 0 = 18
 begin 1 append 33 65 = 18
 give 1 : 1 20 0 0
 2 deliver 0",
-    )
+    );
 }
 
 // A unit that is none, a unit both dropped and new, a set that is not rising, a set emptied, too many sets; the last epoch before all of them.
 // The offered layout is spoilt on its way: a unit that is none, then one that was not in the set. Sealing again is fine, and the third offer is taken.
-pub(crate) fn plans(run: Run, units: &mut [u8]) -> Run {
-    play(
-        run,
-        units,
+pub(crate) fn plans(script: &mut [u8]) {
+    lay(
+        script,
         b"# a reorganise checks before it seals
 fresh 2
 begin 1 reorganise 9
@@ -103,14 +99,13 @@ offer 0 3
 2 deliver 0 : 1 12 0 1
 begin 1 reorganise 2
 10 deliver 0 : 1 0 0 1",
-    )
+    );
 }
 
 // 128 slots are used: a new position has no room until one is freed, and a written one needs none.
-pub(crate) fn full_unit(run: Run, units: &mut [u8]) -> Run {
-    play(
-        run,
-        units,
+pub(crate) fn full_unit(script: &mut [u8]) {
+    lay(
+        script,
         b"# a full unit
 fresh 3
 pages 1 128
@@ -132,5 +127,5 @@ begin 1 fill 200
 4 deliver 0 : 1 0 200 1
 begin 2 read 200
 4 deliver 0 : 2 0 200 1 junk",
-    )
+    );
 }

@@ -9,11 +9,11 @@
 // with a 1 over memories that are too short.
 // What is no step, but arranged between two: used CLIENT NUMBERS; life CLIENT LIFE; held EPOCH SETS; count LETTERS; offer PLACE
 // UNIT (which becomes all of the first set offered); byte UNIT OFFSET VALUE; pages UNIT COUNT (data of no bytes, from 0 on).
-use client::state::Change;
+use client::Change;
+use client::Work;
 use client::state::Job;
-use client::state::Work;
 use layout::Chain;
-use layout::plan::Wish;
+use layout::Wish;
 use num::Position;
 use num::answer::pick;
 use rule::Step;
@@ -144,4 +144,16 @@ pub(crate) fn wanted(row: Line, last: bool) -> Seen {
         want = [row[6], row[7], row[8], row[9], row[10], page];
     }
     want
+}
+
+// Lays a script down, as far as there is room.
+pub(crate) fn lay(script: &mut [u8], words: &[u8]) {
+    let mut i: usize = 0;
+    while i < words.len() {
+        if script.len() <= i {
+            return;
+        }
+        script[i] = words[i];
+        i += 1;
+    }
 }

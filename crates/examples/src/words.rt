@@ -1,13 +1,14 @@
-// A step of the yard in words.
+// A step of the yard in words. What is said stands in tables, by number, so that no arm of a `match` spells it out: that is dear to prove.
+ghost use Prim.Native.Nat.{_≤_};
+ghost use lib.ListN.{length};
 use crate::script::Do;
 use crate::script::Line;
 use crate::script::Op;
 use crate::script::Seen;
 use crate::script::page_number;
-use client::message::Ask;
-use client::message::Page;
-use client::message::Reply;
-use layout::Layout;
+use client::Ask;
+use client::Page;
+use client::Reply;
 use num::Epoch;
 use num::Position;
 use num::bytes::wide;
@@ -16,62 +17,148 @@ use rule::Letter;
 use say::number;
 use say::text;
 
-fn numbered(words: &[u8], n: u64) {
-    text(words);
-    number(n);
+pub(crate) fn more(n: u64) -> u64 {
+    if n < 1_000_000 { n + 1 } else { n }
 }
 
-fn say_epoch(e: Epoch) {
-    numbered(b" e", e.0 as u64);
+// Where the phrase of that number starts, from 1 on; a bar ends each. The end where there is none.
+fn phrase_start(words: &[u8], n: u64) -> usize
+    ensures { λ r. ⌜ r ≤ length (now (words .entry)) ⌝ }
+{
+    let mut now: u64 = 1;
+    let mut i = 0;
+    while i < words.len() {
+        if now == n {
+            return i;
+        }
+        if words[i] == b'|' {
+            now = more(now);
+        }
+        i += 1;
+    }
+    i
+}
+
+// Prints the phrase of that number, and nothing where there is none.
+fn phrase(words: &[u8], n: u64) {
+    let start = phrase_start(words, n);
+    let next = phrase_start(words, more(n));
+    if start < next {
+        text(&words[start..next - 1]);
+    }
+}
+
+// What stands between numbers, by its number in `say_piece`.
+struct Piece;
+
+impl Piece {
+    const TOLD: u64 = 1;
+
+    const WHO: u64 = 2;
+
+    const ENDS: u64 = 3;
+
+    const POSITION: u64 = 4;
+
+    const EPOCH: u64 = 5;
+
+    const JUNK: u64 = 6;
+
+    const DATA: u64 = 7;
+
+    const SPACE: u64 = 8;
+
+    const LENGTH: u64 = 9;
+
+    const UNIT: u64 = 10;
+
+    const DROP: u64 = 11;
+
+    const SETS: u64 = 12;
+
+    const OF: u64 = 13;
+
+    const SHORT: u64 = 14;
+
+    const NONE: u64 = 15;
+
+    const CLIENT: u64 = 16;
+
+    const TO: u64 = 17;
+
+    const TO_CLIENT: u64 = 18;
+
+    const STEP: u64 = 19;
+
+    const ARRANGED: u64 = 20;
+
+    const ARRANGED_END: u64 = 21;
+}
+
+fn say_piece(n: u64) {
+    phrase(
+        b": |; client | ends | p| e| junk| data| | of length |unit |, drop|, new sets | of|, memories too short|, none there|, client | to |, to client |  |   (arranged: |)\n|",
+        n,
+    );
+}
+
+// A piece, and a number after it.
+fn numbered(n: u64, value: u64) {
+    say_piece(n);
+    number(value);
+}
+
+// What is done, by its number in `Do`, without what it is done with.
+fn say_verb(what: u64) {
+    phrase(
+        b"begin, client |deliver |drop |stop unit |restart client |give up, client |forget|fresh yard of |||client, numbers used: |client, life: |held epoch, sets: |letters counted: |letter, unit of its first set: |unit, offset, byte: |unit, pages: |",
+        what,
+    );
 }
 
 // A page: its kind, its length, and its first byte.
 fn say_page(page: u64) {
     if page / 65_536 == 2 {
-        text(b" junk");
+        say_piece(Piece::JUNK);
         return;
     }
     let len = page / 256 % 256;
-    text(b" data");
+    say_piece(Piece::DATA);
     if 0 < len {
-        numbered(b" ", page % 256);
+        numbered(Piece::SPACE, page % 256);
     }
-    numbered(b" of length ", len);
+    numbered(Piece::LENGTH, len);
 }
 
-fn at_unit(u: u8, what: &[u8], e: Epoch, p: Position) {
-    numbered(b"unit ", wide(u));
-    text(what);
-    say_epoch(e);
-    numbered(b" p", p.0);
+// From the second on with an epoch, from the fifth on with a position, from the fourth on but for the fifth to a unit.
+fn say_asked(n: u64, u: u8, e: Epoch, p: Position) {
+    if u != 0 {
+        numbered(Piece::UNIT, wide(u));
+    }
+    phrase(
+        b"holder: fetch|holder: offer|sequencer: token|: seal|sequencer: start|: write|: read|: trim|: prune|",
+        n,
+    );
+    if 1 < n {
+        numbered(Piece::EPOCH, e.0 as u64);
+    }
+    if 4 < n {
+        numbered(Piece::POSITION, p.0);
+    }
 }
 
-fn say_ask(ask: Ask, layout: Layout) {
-    let offered = layout.epoch;
+fn say_ask(ask: Ask, offered: Epoch) {
+    let none = Position(0);
     match ask {
-        Ask::Fetch => text(b"holder: fetch"),
-        Ask::Token(e) => {
-            text(b"sequencer: token");
-            say_epoch(e);
-        }
-        Ask::Write(u, e, p) => at_unit(u, b": write", e, p),
-        Ask::Read(u, e, p) => at_unit(u, b": read", e, p),
-        Ask::Trim(u, e, p) => at_unit(u, b": trim", e, p),
-        Ask::Prune(u, e, p) => at_unit(u, b": prune", e, p),
-        Ask::Seal(u, e) => {
-            numbered(b"unit ", wide(u));
-            text(b": seal");
-            say_epoch(e);
-        }
-        Ask::Offer => {
-            text(b"holder: offer");
-            say_epoch(offered);
-        }
-        Ask::Start(e, p) => {
-            text(b"sequencer: start");
-            say_epoch(e);
-            numbered(b" p", p.0);
-        }
+        Ask::Fetch => say_asked(1, 0, offered, none),
+        Ask::Offer => say_asked(2, 0, offered, none),
+        Ask::Token(e) => say_asked(3, 0, e, none),
+        Ask::Seal(u, e) => say_asked(4, u, e, none),
+        Ask::Start(e, p) => say_asked(5, 0, e, p),
+        Ask::Write(u, e, p) => say_asked(6, u, e, p),
+        Ask::Read(u, e, p) => say_asked(7, u, e, p),
+        Ask::Trim(u, e, p) => say_asked(8, u, e, p),
+        Ask::Prune(u, e, p) => say_asked(9, u, e, p),
     }
 }
 
@@ -81,21 +168,29 @@ pub(crate) fn number_of(page: Page) -> u64 {
     page_number(wide(page.kind), wide(page.len), wide(bytes[0]))
 }
 
-fn say_reply(reply: Reply, page: Page, layout: Layout) {
-    let held = layout.epoch;
+fn say_answer(n: u64) {
+    phrase(b"fine|layout|page|token |edge |number |", n);
+}
+
+fn say_counted(n: u64, value: u64) {
+    say_answer(n);
+    number(value);
+}
+
+fn say_reply(reply: Reply, page: u64, held: Epoch) {
     match reply {
+        Reply::Fine => say_answer(1),
         Reply::Held => {
-            text(b"layout");
-            say_epoch(held);
+            say_answer(2);
+            numbered(Piece::EPOCH, held.0 as u64);
         }
-        Reply::Given(p) => numbered(b"token ", p.0),
-        Reply::Fine => text(b"fine"),
         Reply::Shown => {
-            text(b"page");
-            say_page(number_of(page));
+            say_answer(3);
+            say_page(page);
         }
-        Reply::Edge(p) => numbered(b"edge ", p.0),
-        Reply::Refused(n) => numbered(b"number ", wide(n)),
+        Reply::Given(p) => say_counted(4, p.0),
+        Reply::Edge(p) => say_counted(5, p.0),
+        Reply::Refused(n) => say_counted(6, wide(n)),
     }
 }
 
@@ -104,102 +199,74 @@ fn say_letter(l: Letter) {
     let body = l.body;
     let page = l.page;
     let layout = l.layout;
-    let stamp = l.stamp;
+    let epoch = layout.epoch;
+    let who = wide(l.stamp.client);
     match body {
-        Body::Blank => text(b", none there"),
+        Body::Blank => say_piece(Piece::NONE),
         Body::Asks(ask) => {
-            numbered(b", client ", wide(stamp.client));
-            text(b" to ");
-            say_ask(ask, layout);
+            numbered(Piece::CLIENT, who);
+            say_piece(Piece::TO);
+            say_ask(ask, epoch);
         }
         Body::Answers(reply) => {
-            numbered(b", to client ", wide(stamp.client));
-            text(b": ");
-            say_reply(reply, page, layout);
+            numbered(Piece::TO_CLIENT, who);
+            say_piece(Piece::TOLD);
+            say_reply(reply, number_of(page), epoch);
         }
     }
 }
 
-// How a letter is delivered.
+// How a letter is delivered: kept or not, and its answer lost or not.
 fn say_how(how: u64) {
-    match how {
-        1 => text(b" (kept)"),
-        2 => text(b" (answer lost)"),
-        3 => text(b" (kept, answer lost)"),
-        _ => {}
-    }
+    phrase(b" (kept)| (answer lost)| (kept, answer lost)|", how);
 }
 
 // The units of a reorganise, a digit each.
-fn say_units(words: &[u8], a: u64, b: u64) {
+fn say_units(n: u64, a: u64, b: u64) {
     if (a == 0) & (b == 0) {
         return;
     }
-    text(words);
+    say_piece(n);
     if 0 < a {
-        numbered(b" ", a);
+        numbered(Piece::SPACE, a);
     }
     if 0 < b {
-        numbered(b" ", b);
+        numbered(Piece::SPACE, b);
     }
 }
 
 fn say_change(drops: u64, new: u64) {
-    text(b"reorganise");
-    say_units(b", drop", drops / 10 % 10, drops % 10);
+    say_units(Piece::DROP, drops / 10 % 10, drops % 10);
     if 99 < new {
-        numbered(b", new sets ", new / 100);
-        say_units(b" of", new / 10 % 10, new % 10);
+        numbered(Piece::SETS, new / 100);
+        say_units(Piece::OF, new / 10 % 10, new % 10);
     }
 }
 
 fn say_job(work: u64, n: u64, m: u64) {
+    phrase(b"append|read p|fill p|trim p|prune p|reorganise|", work);
     match work {
-        Op::APPEND => {
-            text(b"append");
-            say_page(page_number(1, n, m));
-        }
-        Op::READ => numbered(b"read p", n),
-        Op::FILL => numbered(b"fill p", n),
-        Op::TRIM => numbered(b"trim p", n),
-        Op::PRUNE => numbered(b"prune p", n),
-        _ => say_change(n, m),
+        Op::APPEND => say_page(page_number(1, n, m)),
+        Op::REORGANISE => say_change(n, m),
+        _ => number(n),
     }
 }
 
 // A first layout, and whether the memories are too short.
 fn say_first(n: u64, short: u64) {
-    match n {
-        1 => text(b"{1 2}"),
-        2 => text(b"example 10"),
-        3 => text(b"{1}"),
-        4 => text(b"{1 2} in epoch 2"),
-        _ => text(b"{2 1}"),
-    }
+    phrase(b"{1 2}|example 10|{1}|{1 2} in epoch 2|{2 1}|", n);
     if short == 1 {
-        text(b", memories too short");
+        say_piece(Piece::SHORT);
     }
 }
 
-// What is done, without what it is done with.
-fn say_verb(what: u64) {
-    match what {
-        Do::BEGIN => text(b"begin, client "),
-        Do::DELIVER => text(b"deliver "),
-        Do::DROP => text(b"drop "),
-        Do::STOP => text(b"stop unit "),
-        Do::RESTART => text(b"restart client "),
-        Do::GIVE_UP => text(b"give up, client "),
-        Do::FORGET => text(b"forget"),
-        _ => text(b"fresh yard of "),
-    }
-}
-
-// The step, before it is taken; `l` is the letter at its place.
-pub(crate) fn say_step(row: Line, l: Letter) {
+// The step of number `n`, before it is taken; `l` is the letter at its place.
+pub(crate) fn say_step(n: u64, row: Line, l: Letter) {
     let what = row[1];
     let whom = row[2];
     let how = row[3];
+    numbered(Piece::STEP, n);
+    say_piece(Piece::SPACE);
     say_verb(what);
     if what == Do::FRESH {
         say_first(whom, how);
@@ -209,7 +276,7 @@ pub(crate) fn say_step(row: Line, l: Letter) {
         number(whom);
     }
     if what == Do::BEGIN {
-        text(b": ");
+        say_piece(Piece::TOLD);
         say_job(how, row[4], row[5]);
     }
     if (what == Do::DELIVER) | (what == Do::DROP) {
@@ -220,15 +287,25 @@ pub(crate) fn say_step(row: Line, l: Letter) {
 
 // What came of it.
 pub(crate) fn say_told(got: Seen) {
-    numbered(b": ", got[0]);
+    numbered(Piece::TOLD, got[0]);
     if got[1] == 0 {
         return;
     }
-    numbered(b"; client ", got[1]);
-    numbered(b" ends ", got[2]);
-    numbered(b" p", got[3]);
-    numbered(b" e", got[4]);
+    numbered(Piece::WHO, got[1]);
+    numbered(Piece::ENDS, got[2]);
+    numbered(Piece::POSITION, got[3]);
+    numbered(Piece::EPOCH, got[4]);
     if got[5] != 0 {
         say_page(got[5]);
     }
+}
+
+// What is arranged, with its numbers.
+pub(crate) fn say_arranged(row: Line) {
+    say_piece(Piece::ARRANGED);
+    say_verb(row[1]);
+    number(row[2]);
+    numbered(Piece::SPACE, row[3]);
+    numbered(Piece::SPACE, row[4]);
+    say_piece(Piece::ARRANGED_END);
 }

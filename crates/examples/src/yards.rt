@@ -1,12 +1,10 @@
-// All runs of the yard, scene after scene.
-use crate::drive::Run;
+// The scripts of all scenes, one after the other.
 use crate::ends::bag;
 use crate::ends::log;
 use crate::ends::numbers;
 use crate::failures::acknowledged;
 use crate::failures::between_copies;
 use crate::failures::two_stations;
-use crate::first::first_layout;
 use crate::races::doubled_write;
 use crate::races::forgotten_sequencer;
 use crate::races::reorganisers;
@@ -14,42 +12,22 @@ use crate::refusals::full_unit;
 use crate::refusals::lent;
 use crate::refusals::nobody;
 use crate::refusals::plans;
-use kept::fresh_kept;
 
-fn scene(k: usize, run: Run, units: &mut [u8]) -> Run {
+// Lays down the script of a scene, the first for 0.
+pub(crate) fn scene(k: usize, script: &mut [u8]) {
     match k {
-        0 => between_copies(run, units),
-        1 => two_stations(run, units),
-        2 => acknowledged(run, units),
-        3 => reorganisers(run, units),
-        4 => doubled_write(run, units),
-        5 => forgotten_sequencer(run, units),
-        6 => bag(run, units),
-        7 => numbers(run, units),
-        8 => log(run, units),
-        9 => lent(run, units),
-        10 => nobody(run, units),
-        11 => plans(run, units),
-        _ => full_unit(run, units),
+        0 => between_copies(script),
+        1 => two_stations(script),
+        2 => acknowledged(script),
+        3 => reorganisers(script),
+        4 => doubled_write(script),
+        5 => forgotten_sequencer(script),
+        6 => bag(script),
+        7 => numbers(script),
+        8 => log(script),
+        9 => lent(script),
+        10 => nobody(script),
+        11 => plans(script),
+        _ => full_unit(script),
     }
-}
-
-fn begun(units: &mut [u8]) -> Run {
-    let made = fresh_kept(first_layout(1), units);
-    let kept = made.kept;
-    Run {
-        kept,
-        steps: 0,
-        wrong: 0,
-    }
-}
-
-pub(crate) fn yards(units: &mut [u8]) -> Run {
-    let mut run = begun(units);
-    let mut k: usize = 0;
-    while k < 13 {
-        run = scene(k, run, units);
-        k += 1;
-    }
-    run
 }

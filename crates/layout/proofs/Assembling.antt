@@ -12,7 +12,7 @@ use Rattle.num.specs.Limits.{lastEpoch}
 use Rattle.num.proofs.Tests.{and-both}
 use Rattle.layout.specs.declared.Chain.{Chain}
 use Rattle.layout.specs.declared.Layout.{Layout}
-use Rattle.layout.specs.declared.plan.Wish.{Wish}
+use Rattle.layout.specs.declared.Wish.{Wish}
 use Rattle.layout.specs.Lay.{Span, Lay, goodSets, setLimit, setsLimit, rangesLimit}
 use Rattle.layout.specs.Value.{padded, noChain, noRange, unitsIn, chainOf, rangeOf, layOf, valueOf}
 use Rattle.layout.specs.Plan.{without, thinned, newSpans, newRanges, newOf, planned, planAnswer, goodChains, goodWish}

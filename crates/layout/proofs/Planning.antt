@@ -12,7 +12,7 @@ use Rattle.num.specs.Checks.{lowest}
 use Rattle.num.proofs.Tests.{and-both, or-false, cond-zero}
 use Rattle.layout.specs.declared.Chain.{Chain}
 use Rattle.layout.specs.declared.Layout.{Layout}
-use Rattle.layout.specs.declared.plan.Wish.{Wish}
+use Rattle.layout.specs.declared.Wish.{Wish}
 use Rattle.layout.specs.Lay.{Lay, goodSet, goodSets, setsLimit, rangesLimit}
 use Rattle.layout.specs.Value.{unitsIn, chainOf, layOf, valueOf, blank, tidyChain, goodValue}
 use Rattle.layout.specs.Plan.{newRanges, badDrops, emptied, planChecks, planAnswer, goodChains, goodWish, newOf, reorganiseAnswer, planned, plannedFor}

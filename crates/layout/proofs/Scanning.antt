@@ -12,7 +12,7 @@ use lib.ListN.{length, getD, drop, length-append}
 use Rattle.num.proofs.Tests.{and-both, false-true, left-step}
 use Rattle.layout.specs.declared.Chain.{Chain}
 use Rattle.layout.specs.Lay.{_in?_, inSets, rising, goodSet, goodSets, unitLimit}
-use Rattle.layout.specs.declared.plan.Wish.{Wish}
+use Rattle.layout.specs.declared.Wish.{Wish}
 use Rattle.layout.specs.Value.{padded, noChain, unitsIn, chainOf, tidyChain}
 use Rattle.layout.specs.Codec.{counted, setsBytes, setFront, setsAt, pastSets, setsSaid, same, areSets, setsName, wishSaid}
 use Rattle.layout.proofs.Bools.{same-test}

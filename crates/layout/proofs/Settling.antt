@@ -10,7 +10,7 @@ use lib.ListN.{length, getD, set, length-map, length-append, List·getD-append}
 use lib.Seq.{getD-at}
 use Rattle.num.proofs.Tests.{false-true}
 use Rattle.layout.specs.declared.Layout.{Layout}
-use Rattle.layout.specs.declared.plan.Wish.{Wish}
+use Rattle.layout.specs.declared.Wish.{Wish}
 use Rattle.layout.specs.declared.plan.Started.{Started}
 use Rattle.layout.specs.Lay.{Span, Lay, goodSets, goodSpans, firstAtZero, rangesLimit}
 use Rattle.layout.specs.Value.{padded, noRange, rangeOf, layOf, valueOf, blank}

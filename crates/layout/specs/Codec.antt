@@ -9,7 +9,7 @@ use lib.Seq.{sets}
 use Rattle.num.specs.Bytes.{leBytes, numberAt}
 use Rattle.num.specs.Checks.{lowest, _if_}
 use Rattle.layout.specs.declared.Layout.{Layout}
-use Rattle.layout.specs.declared.plan.Wish.{Wish}
+use Rattle.layout.specs.declared.Wish.{Wish}
 use Rattle.layout.specs.Lay.{Span, Lay, good, goodSets, inSets, unitsOf, setsLimit}
 use Rattle.layout.specs.Value.{padded, noChain, chainOf, layOf, valueOf, blank, goodValue}
 

@@ -8,7 +8,7 @@ use Rattle.num.specs.Limits.{limit, lastEpoch}
 use Rattle.num.specs.Checks.{Check, lowest, _if_}
 use Rattle.layout.specs.declared.Chain.{Chain}
 use Rattle.layout.specs.declared.Layout.{Layout}
-use Rattle.layout.specs.declared.plan.Wish.{Wish}
+use Rattle.layout.specs.declared.Wish.{Wish}
 use Rattle.layout.specs.declared.plan.Planned.{Planned}
 use Rattle.layout.specs.declared.plan.Started.{Started}
 use Rattle.layout.specs.Lay.{Span, Lay, goodSet, goodSets, _in?_, inSets, setsLimit, rangesLimit, unitLimit}

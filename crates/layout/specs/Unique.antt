@@ -8,7 +8,7 @@ use Rattle.layout.specs.declared.Layout.{Layout}
 use Rattle.layout.specs.Value.{blank, goodValue, layOf}
 use Rattle.layout.specs.Codec.{LayoutRead, LayoutWritten, areSets, setsName, wishSaid}
 use Rattle.layout.specs.declared.place.Placed.{Placed}
-use Rattle.layout.specs.declared.plan.Wish.{Wish}
+use Rattle.layout.specs.declared.Wish.{Wish}
 use Rattle.layout.specs.declared.plan.Planned.{Planned}
 use Rattle.layout.specs.declared.plan.Started.{Started}
 use Rattle.layout.specs.declared.holder.Offered.{Offered}

@@ -35,6 +35,12 @@ pub struct Layout {
     pub ranges: [Range; 8],
 }
 
+// The new sets that are wanted: the first `count`. Those past the count are not looked at; for more than 16 there is no room.
+pub struct Wish {
+    pub count: u8,
+    pub sets: [Chain; 16],
+}
+
 impl Chain {
     pub const UNITS: usize = 4;
 }

@@ -1,9 +1,9 @@
 // New sets as bytes: a count, and then sets as in a layout, up to 255.
 ghost use mathlib.Core.Path.{_≡_};
 ghost use Rattle.layout.specs.Codec.{areSets, setsName, wishSaid};
+use crate::Wish;
 use crate::good::good_chain;
 use crate::place::holds;
-use crate::plan::Wish;
 use crate::read::byte_at;
 use crate::read::chain_from;
 use crate::read::sets_from;

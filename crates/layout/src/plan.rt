@@ -12,6 +12,7 @@ ghost use Rattle.layout.specs.Plan.{thinned, badDrops, emptied, goodWish
 use crate::Chain;
 use crate::Layout;
 use crate::Range;
+use crate::Wish;
 use crate::good::good_chain;
 use crate::good::is_good;
 use crate::place::among;
@@ -25,12 +26,6 @@ use num::Position;
 use num::answer::Answer;
 use num::answer::pick;
 use num::bytes::size;
-
-// The new sets that are wanted: the first `count`. Those past the count are not looked at; for more than 16 there is no room.
-pub struct Wish {
-    pub count: u8,
-    pub sets: [Chain; 16],
-}
 
 // The new layout, the start of its new range still open.
 pub struct Planned {

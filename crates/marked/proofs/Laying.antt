@@ -6,7 +6,7 @@ use lib.ListN.{getD}
 use Rattle.num.specs.Bytes.{numberAt}
 use Rattle.layout.specs.declared.Layout.{Layout}
 use Rattle.layout.specs.declared.place.Placed.{Placed}
-use Rattle.layout.specs.declared.plan.Wish.{Wish}
+use Rattle.layout.specs.declared.Wish.{Wish}
 use Rattle.layout.specs.declared.plan.Planned.{Planned}
 use Rattle.layout.specs.Codec.{readLayout}
 use Rattle.layout.specs.Places.{placedAt}

@@ -4,7 +4,7 @@ use mathlib.Core.List.{List, [], _∷_}
 use lib.ListN.{getD, replicate}
 use Rattle.num.specs.Bytes.{numberAt}
 use Rattle.layout.specs.declared.Chain.{Chain}
-use Rattle.layout.specs.declared.plan.Wish.{Wish}
+use Rattle.layout.specs.declared.Wish.{Wish}
 use Rattle.layout.specs.declared.plan.Planned.{Planned}
 use Rattle.layout.specs.Value.{noChain}
 use Rattle.layout.specs.Codec.{readLayout}

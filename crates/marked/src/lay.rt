@@ -6,8 +6,8 @@ ghost use Rattle.marked.specs.Lays.{told, tenth, noWish, placeTold, drop
 use crate::ask::Told;
 use layout::Chain;
 use layout::Layout;
+use layout::Wish;
 use layout::place::set_of;
-use layout::plan::Wish;
 use layout::plan::plan;
 use layout::read::read_layout;
 use num::Position;

@@ -9,9 +9,9 @@ use Prim.Native.Nat.{ℕ, _-_, _≤_}
 use Rattle.num.proofs.Tests.{and-false}
 use Rattle.num.specs.declared.Epoch.{Epoch}
 use Rattle.num.specs.declared.Position.{Position}
-use Rattle.client.specs.declared.message.Ask.{Ask}
-use Rattle.client.specs.declared.message.Ask.the-variants.{Write, Read, Trim, Prune, Seal}
-use Rattle.client.specs.declared.message.Reply.{Reply}
+use Rattle.client.specs.declared.Ask.{Ask}
+use Rattle.client.specs.declared.Ask.the-variants.{Write, Read, Trim, Prune, Seal}
+use Rattle.client.specs.declared.Reply.{Reply}
 use Rattle.client.specs.declared.turn.Turn.{Turn}
 use Rattle.client.specs.Client.{fresh}
 use Rattle.client.specs.Take.{takes}

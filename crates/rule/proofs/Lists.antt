@@ -10,9 +10,9 @@ use lib.ListN.{length, getD, set}
 use lib.Seq.{getD-set-same, getD-set-other}
 use borrow.Author.Tests.{leb-true}
 use Rattle.num.proofs.Tests.{false-true, and-both}
-use Rattle.client.specs.declared.message.Query.{Query}
-use Rattle.client.specs.declared.turn.Act.{Act}
-use Rattle.client.specs.declared.turn.Act.the-variants.{Rests, Sends, Ends}
+use Rattle.client.specs.declared.Query.{Query}
+use Rattle.client.specs.declared.Act.{Act}
+use Rattle.client.specs.declared.Act.the-variants.{Rests, Sends, Ends}
 use Rattle.rule.specs.declared.Letter.{Letter}
 use Rattle.rule.specs.World.{isClient, isUnit}
 use Rattle.rule.specs.Steps.{without, posted}

@@ -13,9 +13,9 @@ use Rattle.layout.specs.declared.Layout.{Layout}
 use Rattle.unit.specs.Shape.{small}
 use Rattle.unit.specs.State.{State, lookup}
 use Rattle.unit.specs.Unit.{freshUnit, trimmed, writeSays, written, writeUnit, trimSays, retired, trimmedAt, trimUnit, pruneSays, pruned, prunedTo, pruneUnit, sealSays, sealedAt, sealUnit}
-use Rattle.client.specs.declared.message.Ask.{Ask}
-use Rattle.client.specs.declared.message.Ask.the-variants.{Fetch, Token, Write, Read, Trim, Prune, Seal, Offer, Start}
-use Rattle.client.specs.declared.message.Page.{Page as PageValue}
+use Rattle.client.specs.declared.Ask.{Ask}
+use Rattle.client.specs.declared.Ask.the-variants.{Fetch, Token, Write, Read, Trim, Prune, Seal, Offer, Start}
+use Rattle.client.specs.declared.Page.{Page as PageValue}
 use Rattle.client.specs.declared.state.Job.{Job}
 use Rattle.client.specs.declared.turn.Turn.{Turn}
 use Rattle.client.specs.Client.{busy, lastNumber}

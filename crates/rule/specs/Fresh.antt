@@ -37,15 +37,18 @@ freshWorld l = record {
 
 -- ---- over what is lent for it
 
--- 1: memories of another length. 10: a layout that is not good, or not of epoch 1. 16: a table not of 32 letters
-unfoldable pub freshNumber : Layout → List Letter → List ℕ → ℕ
-freshNumber l table memories =
+-- 1: memories of another length. 10: a layout that is not good, or not of epoch 1. 16: a table not of 32 places
+unfoldable pub freshNumberOf : Layout → ℕ → ℕ → ℕ
+freshNumberOf l places size =
     lowest (
-    1 if not (eqb (length memories) (unitLimit * unitSize))
+    1 if not (eqb size (unitLimit * unitSize))
     ∷ 10 if not (goodValue l && eqb (l .epoch .0) 1)
-    ∷ 16 if not (eqb (length table) letterLimit)
+    ∷ 16 if not (eqb places letterLimit)
     ∷ []
     )
+
+unfoldable pub freshNumber : Layout → List Letter → List ℕ → ℕ
+freshNumber l table memories = freshNumberOf l (length table) (length memories)
 
 abbrev pub freshYard : Layout → Yard
 freshYard l = record { held = l; clients = replicate clientLimit client.fresh; stopped = replicate unitLimit false; count = 0 }

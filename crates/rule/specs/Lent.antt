@@ -6,16 +6,15 @@ use mathlib.Core.Path.{_≡_}
 use lib.Dec.{eqb, ltb}
 use lib.ListN.{length, take, drop, replicate}
 use Rattle.num.specs.Checks.{lowest, _if_}
-use Rattle.layout.specs.declared.Layout.{Layout}
 use Rattle.layout.specs.Value.{goodValue}
 use Rattle.unit.specs.Shape.{small, memorySize}
 use Rattle.unit.specs.State.{State}
 use Rattle.unit.specs.Memory.{good, decode, encode, numberOf}
 use Rattle.sequencer.specs.declared.Sequencer.{Sequencer}
-use Rattle.client.specs.declared.state.Client.{Client}
+use Rattle.client.specs.declared.Client.{Client}
 use Rattle.client.specs.declared.state.Job.{Job}
-use Rattle.client.specs.declared.state.Stage.{Stage}
-use Rattle.client.specs.declared.state.Stage.the-variants.{Idle, Fetching, Drawing, Writing, Reading, Filling, Looking, Trimming, Pruning, Sealing, Offering, Starting}
+use Rattle.client.specs.declared.Stage.{Stage}
+use Rattle.client.specs.declared.Stage.the-variants.{Idle, Fetching, Drawing, Writing, Reading, Filling, Looking, Trimming, Pruning, Sealing, Offering, Starting}
 use Rattle.client.specs.Turn.{noOutcome}
 use Rattle.rule.specs.declared.Letter.{Letter}
 use Rattle.rule.specs.declared.Yard.{Yard}
@@ -63,15 +62,18 @@ unfoldable pub goodClients : List Client → Bool
 goodClients [] = true
 goodClients (c ∷ cs) = (not (fetched (c .stage)) || goodValue (c .layout)) && goodClients cs
 
--- 1: a unit memory not good or not of its number. 10: a held or fetched layout not good. 16: a table not of 32 letters or a count above it
-unfoldable pub lentNumber : Lent → ℕ
-lentNumber b =
+-- 1: a unit memory not good or not of its number. 10: a held or fetched layout not good. 16: a table not of 32 places or a count above it
+unfoldable pub testNumber : Yard → ℕ → List ℕ → ℕ
+testNumber y places m =
     lowest (
-    1 if not (goodUnits 1 unitLimit (b .memories))
-    ∷ 10 if not (goodValue (b .yard .held) && goodClients (b .yard .clients))
-    ∷ 16 if (not (eqb (length (b .table)) letterLimit) || ltb letterLimit (b .yard .count))
+    1 if not (goodUnits 1 unitLimit m)
+    ∷ 10 if not (goodValue (y .held) && goodClients (y .clients))
+    ∷ 16 if (not (eqb places letterLimit) || ltb letterLimit (y .count))
     ∷ []
     )
+
+unfoldable pub lentNumber : Lent → ℕ
+lentNumber b = testNumber (b .yard) (length (b .table)) (b .memories)
 
 -- ---- the yard that is lent
 

@@ -4,8 +4,6 @@ use mathlib.Core.Bool.{Bool, false, not, cond}
 use mathlib.Core.List.{List, []}
 use lib.Dec.{eqb, leb}
 use lib.ListN.{length, take, set}
-use Rattle.num.specs.declared.Epoch.{Epoch}
-use Rattle.num.specs.declared.Position.{Position}
 use Rattle.layout.specs.declared.Layout.{Layout}
 use Rattle.layout.specs.declared.holder.Offered.{Offered}
 use Rattle.layout.specs.declared.holder.Fetched.{Fetched}
@@ -20,12 +18,12 @@ use Rattle.sequencer.specs.declared.Asked.the-variants as asked
 use Rattle.sequencer.specs.declared.Told.{Told}
 use Rattle.sequencer.specs.declared.Told.the-variants.{At, Number}
 use Rattle.sequencer.specs.Rules.{told, after}
-use Rattle.client.specs.declared.message.Page.{Page}
-use Rattle.client.specs.declared.message.Ask.{Ask}
-use Rattle.client.specs.declared.message.Ask.the-variants.{Fetch, Token, Write, Read, Trim, Prune, Seal, Offer, Start}
-use Rattle.client.specs.declared.message.Reply.{Reply}
-use Rattle.client.specs.declared.message.Reply.the-variants.{Held, Given, Fine, Shown, Edge, Refused}
-use Rattle.client.specs.declared.message.Response.{Response}
+use Rattle.client.specs.declared.Page.{Page}
+use Rattle.client.specs.declared.Ask.{Ask}
+use Rattle.client.specs.declared.Ask.the-variants.{Fetch, Token, Write, Read, Trim, Prune, Seal, Offer, Start}
+use Rattle.client.specs.declared.Reply.{Reply}
+use Rattle.client.specs.declared.Reply.the-variants.{Held, Given, Fine, Shown, Edge, Refused}
+use Rattle.client.specs.declared.Response.{Response}
 use Rattle.client.specs.Message.{pageLimit, noPage}
 use Rattle.rule.specs.World.{World, running, unitAt}
 

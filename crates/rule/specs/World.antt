@@ -1,7 +1,7 @@
 -- The yard as the paper speaks of it, without bytes.
 use Prim.Native.Nat.{ℕ, _-_}
 use mathlib.Core.Bool.{Bool, true, _&&_, not}
-use mathlib.Core.List.{List, [], _∷_}
+use mathlib.Core.List.{List}
 use lib.Dec.{leb}
 use lib.ListN.{getD}
 use Rattle.layout.specs.declared.Layout.{Layout}
@@ -9,7 +9,7 @@ use Rattle.layout.specs.Value.{blank}
 use Rattle.unit.specs.State.{State}
 use Rattle.unit.specs.Unit.{freshUnit}
 use Rattle.sequencer.specs.declared.Sequencer.{Sequencer}
-use Rattle.client.specs.declared.state.Client.{Client}
+use Rattle.client.specs.declared.Client.{Client}
 use Rattle.client.specs.Client.{fresh}
 use Rattle.client.specs.Message.{noPage}
 use Rattle.rule.specs.declared.Body.the-variants.{Blank}

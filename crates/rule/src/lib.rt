@@ -1,12 +1,12 @@
 // The rule of the yard: letters, and the steps that carry them between clients and machines. specs/ says what each step does; the code is in yard.
 ghost use mathlib.Core.Path.{_≡_};
 ghost use Rattle.rule.specs.World.{blankLetter};
-use client::message::Ask;
-use client::message::Page;
-use client::message::Reply;
-use client::message::Stamp;
-use client::state::Client;
-use client::turn::Outcome;
+use client::Ask;
+use client::Client;
+use client::Outcome;
+use client::Page;
+use client::Reply;
+use client::Stamp;
 use layout::Layout;
 use num::Request;
 

@@ -1,71 +1,68 @@
 // How old a run's yard is, so that the last numbers and the last epochs can be seen.
 use crate::draw::of;
-use client::state::Client;
+use client::Client;
 use kept::Kept;
+use kept::KeptMade;
 use num::Epoch;
 use num::Position;
 use num::Request;
+use rule::Yard;
 use sequencer::start_step;
 
-// Clients near their last life and their last request number.
-fn with_old_clients(kept: Kept) -> Kept {
+// Near their last life and their last request number.
+fn old_clients() -> [Client; 4] {
     let used = Request(4_294_967_235);
     let mut client = Client::fresh();
     client.life = 65_534;
     client.used = used;
-    let clients = [client; 4];
-    let mut yard = kept.yard;
-    yard.clients = clients;
-    let mut next = kept;
-    next.yard = yard;
-    next
+    [client; 4]
 }
 
-// The unit whose memory starts there is sealed near the last epoch.
-fn seal_at(units: &mut [u8], start: usize) {
-    if units.len() < 6168 {
+// Where they are old, every unit is sealed near the last epoch.
+fn seal_all(units: &mut [u8], are_old: bool) {
+    if !are_old {
         return;
     }
-    if units.len() - 6168 < start {
+    if units.len() < 49_344 {
         return;
     }
-    let end = start + 6168;
-    unit::seal::seal(&mut units[start..end], Epoch(4_294_967_290));
-}
-
-fn seal_all(units: &mut [u8]) {
     let mut i: usize = 0;
     while i < 8 {
-        seal_at(units, i * 6168);
+        let start = i * 6168;
+        let end = start + 6168;
+        unit::seal::seal(&mut units[start..end], Epoch(4_294_967_290));
         i += 1;
     }
 }
 
-// The sequencer and the held layout are near the last epoch too.
-fn with_old_epochs(kept: Kept) -> Kept {
-    let epoch = Epoch(4_294_967_291);
-    let seq = kept.sequencer;
-    let started = start_step(seq, epoch, Position(0));
-    let sequencer = started.after;
-    let mut yard = kept.yard;
-    let mut held = yard.held;
-    held.epoch = epoch;
-    yard.held = held;
-    let mut next = kept;
-    next.yard = yard;
-    next.sequencer = sequencer;
-    next
-}
-
-// A fresh yard is made as old as it is drawn.
-pub(crate) fn aged(raw: [u64; 64], kept: Kept, units: &mut [u8]) -> Kept {
-    let age = of(raw, 8, 16);
+// With old clients, or with a held layout near the last epoch.
+fn old_yard(mut yard: Yard, age: u64) -> Yard {
     if age == 0 {
-        return with_old_clients(kept);
+        let clients = old_clients();
+        yard.clients = clients;
     }
     if age == 1 {
-        seal_all(units);
-        return with_old_epochs(kept);
+        let mut held = yard.held;
+        let epoch = Epoch(4_294_967_291);
+        held.epoch = epoch;
+        yard.held = held;
+    }
+    yard
+}
+
+// A fresh yard is made as old as it is drawn: its clients, or the epochs of its units, its held layout and its sequencer.
+pub(crate) fn aged(raw: [u64; 64], made: KeptMade, units: &mut [u8]) -> Kept {
+    let mut kept = made.kept;
+    let age = of(raw, 8, 16);
+    seal_all(units, age == 1);
+    let yard = kept.yard;
+    let older = old_yard(yard, age);
+    kept.yard = older;
+    if age == 1 {
+        let sequencer = kept.sequencer;
+        let started = start_step(sequencer, Epoch(4_294_967_291), Position(0));
+        let next = started.after;
+        kept.sequencer = next;
     }
     kept
 }

@@ -1,22 +1,22 @@
 // What a reorganise changes, drawn.
-ghost use Prim.Native.Nat.{_<_, _≤_};
+ghost use Prim.Native.Nat.{_+_, _<_, _≤_};
 use crate::draw::of;
 use crate::sets::drawn_set;
 use crate::sets::drawn_sets;
 use crate::sets::no_set;
 use crate::sets::odd_set;
-use client::state::Change;
+use client::Change;
 use layout::Chain;
-use layout::plan::Wish;
+use layout::Wish;
 
 // Units to drop, the first `count`.
-struct Drops {
+pub(crate) struct Drops {
     pub count: u8,
     pub units: [u8; 8],
 }
 
 // The units that have stopped, rising.
-fn stopped_units(stopped: [bool; 8]) -> Drops {
+pub(crate) fn stopped_units(stopped: [bool; 8]) -> Drops {
     let mut units = [0u8; 8];
     let mut count: usize = 0;
     let mut i: usize = 0;
@@ -33,14 +33,15 @@ fn stopped_units(stopped: [bool; 8]) -> Drops {
     }
 }
 
-// Any numbers, 0 and 9 among them.
-fn any_units(raw: [u64; 64]) -> Drops {
-    let count = of(raw, 13, 9);
+// So many of a span of numbers from `low` on, the raw numbers from `k` on.
+fn any_units(raw: [u64; 64], k: usize, count: u64, low: u64, span: u64) -> Drops
+    requires { ⌜ (k + 8 < 64) × (count ≤ 8) × (low ≤ 1) × (0 < span) × (span ≤ 10) ⌝ }
+{
     let n = count as usize;
     let mut units = [0u8; 8];
     let mut i: usize = 0;
     while i < n {
-        units[i] = of(raw, 14 + i, 10) as u8;
+        units[i] = (low + of(raw, k + i, span)) as u8;
         i += 1;
     }
     Drops {
@@ -49,30 +50,14 @@ fn any_units(raw: [u64; 64]) -> Drops {
     }
 }
 
-fn one_unit(raw: [u64; 64], k: usize) -> u8
-    requires { ⌜ k < 64 ⌝ }
-{
-    1 + of(raw, k, 8) as u8
-}
-
-fn up_to_two(raw: [u64; 64], count: u8) -> Drops {
-    let mut units = [0u8; 8];
-    if 0 < count {
-        units[0] = one_unit(raw, 13);
-    }
-    if 1 < count {
-        units[1] = one_unit(raw, 14);
-    }
-    Drops { count, units }
-}
-
+// None, those that have stopped, one, two, or any number of any numbers, 0 and 9 among them.
 fn drawn_drops(raw: [u64; 64], stopped: [bool; 8]) -> Drops {
     match of(raw, 12, 16) {
-        0..=3 => up_to_two(raw, 0),
+        0..=3 => any_units(raw, 13, 0, 1, 8),
         4..=9 => stopped_units(stopped),
-        10..=12 => up_to_two(raw, 1),
-        13 | 14 => up_to_two(raw, 2),
-        _ => any_units(raw),
+        10..=12 => any_units(raw, 13, 1, 1, 8),
+        13 | 14 => any_units(raw, 13, 2, 1, 8),
+        _ => any_units(raw, 14, of(raw, 13, 9), 0, 10),
     }
 }
 

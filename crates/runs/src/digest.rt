@@ -1,7 +1,7 @@
 // Digests of numbers, bytes, pages and layouts.
 ghost use Prim.Native.Nat.{_<_};
 use crate::text::smaller;
-use client::message::Page;
+use client::Page;
 use layout::Chain;
 use layout::Layout;
 use layout::Range;

@@ -14,19 +14,13 @@ pub(crate) fn seeded(seed: u64) -> u64
     seed % 2_147_483_646 + 1
 }
 
-// The first remainder changes nothing, since each number drawn is below the modulus: it spares a requirement.
-fn advance(x: u64) -> u64
-    ensures { λ r. ⌜ r < 2147483647 ⌝ }
-{
-    x % 2_147_483_647 * 48_271 % 2_147_483_647
-}
-
+// The first remainder changes nothing, since each number drawn is below the modulus: it spares an invariant.
 pub(crate) fn draw(x: u64) -> Drawn {
     let mut raw = [0u64; 64];
     let mut y = x;
     let mut k: usize = 0;
     while k < 64 {
-        y = advance(y);
+        y = y % 2_147_483_647 * 48_271 % 2_147_483_647;
         raw[k] = y;
         k += 1;
     }

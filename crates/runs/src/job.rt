@@ -4,8 +4,8 @@ use crate::change::drawn_change;
 use crate::draw::of;
 use crate::draw::smaller;
 use crate::seen::Seen;
+use client::Work;
 use client::state::Job;
-use client::state::Work;
 use num::Position;
 use num::answer::Answer;
 
@@ -138,16 +138,25 @@ fn kind_of(raw: [u64; 64], busy: bool, last: u8) -> Kind {
     if busy { busy_kind(n) } else { calm_kind(n) }
 }
 
-pub(crate) fn drawn_job(raw: [u64; 64], seen: Seen) -> Job {
+fn work_of(raw: [u64; 64], seen: Seen) -> Work {
     let memo = seen.memo;
     let mood = seen.mood;
-    let stopped = seen.stopped;
     match kind_of(raw, mood.busy, memo.last) {
-        Kind::Append => appending(raw),
-        Kind::Read => Job::of(Work::Read(Position(position(raw, seen)))),
-        Kind::Fill => Job::of(Work::Fill(Position(fill_position(raw, seen)))),
-        Kind::Trim => Job::of(Work::Trim(Position(position(raw, seen)))),
-        Kind::Prune => Job::of(Work::Prune(Position(prune_position(raw, seen)))),
-        Kind::Reorganise => Job::reorganise(drawn_change(raw, stopped)),
+        Kind::Append => Work::Append,
+        Kind::Read => Work::Read(Position(position(raw, seen))),
+        Kind::Fill => Work::Fill(Position(fill_position(raw, seen))),
+        Kind::Trim => Work::Trim(Position(position(raw, seen))),
+        Kind::Prune => Work::Prune(Position(prune_position(raw, seen))),
+        Kind::Reorganise => Work::Reorganise,
+    }
+}
+
+pub(crate) fn drawn_job(raw: [u64; 64], seen: Seen) -> Job {
+    let stopped = seen.stopped;
+    let work = work_of(raw, seen);
+    match work {
+        Work::Append => appending(raw),
+        Work::Reorganise => Job::reorganise(drawn_change(raw, stopped)),
+        _ => Job::of(work),
     }
 }

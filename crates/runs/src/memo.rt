@@ -1,5 +1,5 @@
 // What is remembered of the run so far.
-use client::turn::Outcome;
+use client::Outcome;
 use num::answer::Answer;
 use num::bytes::size;
 use rule::Step;
@@ -26,31 +26,22 @@ pub(crate) fn blank() -> Memo {
 }
 
 // The client `c` began an operation at step `n`.
-fn with_begun(memo: Memo, c: u8, n: u32) -> Memo {
-    let mut next = memo;
+fn with_begun(mut memo: Memo, c: u8, n: u32) -> Memo {
     if c < 1 {
-        return next;
+        return memo;
     }
     if 4 < c {
-        return next;
+        return memo;
     }
     let at = size(c) - 1;
-    next.begun[at] = n;
-    next
+    memo.begun[at] = n;
+    memo
 }
 
-fn with_outcome(memo: Memo, outcome: Outcome) -> Memo {
-    let mut next = memo;
-    next.last = outcome.number;
-    next.position = outcome.position.0;
-    next
-}
-
-fn with_stuck(memo: Memo, is_stuck: bool, place: u8) -> Memo {
-    let mut next = memo;
-    next.is_stuck = is_stuck;
-    next.stuck = place;
-    next
+fn with_stuck(mut memo: Memo, is_stuck: bool, place: u8) -> Memo {
+    memo.is_stuck = is_stuck;
+    memo.stuck = place;
+    memo
 }
 
 // After the step `n`, which answered so and left so many letters.
@@ -74,10 +65,10 @@ pub(crate) fn noted(memo: Memo, n: u32, step: Step, answer: u8, letters: u8) -> 
 }
 
 // Where an operation of client `who` ended; 0 is nobody.
-pub(crate) fn ended(memo: Memo, who: u8, outcome: Outcome) -> Memo {
-    if who == 0 {
-        memo
-    } else {
-        with_outcome(memo, outcome)
+pub(crate) fn ended(mut memo: Memo, who: u8, outcome: Outcome) -> Memo {
+    if who != 0 {
+        memo.last = outcome.number;
+        memo.position = outcome.position.0;
     }
+    memo
 }

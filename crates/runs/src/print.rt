@@ -1,181 +1,202 @@
 // The lines of a run.
-use crate::text::either;
+use crate::text::Line;
+use crate::text::blank;
 use crate::text::hex;
 use crate::text::list;
+use crate::text::nth;
 use crate::text::number;
 use crate::text::sign;
 use crate::text::smaller;
 use crate::text::text;
 use crate::text::word;
-use client::message::Page;
-use client::state::Change;
+use client::Change;
+use client::Outcome;
+use client::Work;
 use client::state::Job;
-use client::state::Work;
-use client::turn::Outcome;
 use layout::Chain;
 use layout::Layout;
 use layout::Range;
-use num::Position;
 use num::bytes::size;
 use rule::Step;
 
-fn set(line: &mut [u8], at: usize, c: Chain) -> usize {
+// The words of the lines, by their number in `named`.
+struct Word;
+
+impl Word {
+    const BEGIN: u64 = 1;
+
+    const DELIVER: u64 = 2;
+
+    const DROP: u64 = 3;
+
+    const STOP: u64 = 4;
+
+    const RESTART: u64 = 5;
+
+    const GIVE_UP: u64 = 6;
+
+    const FORGET: u64 = 7;
+
+    const APPEND: u64 = 8;
+
+    const READ: u64 = 9;
+
+    const FILL: u64 = 10;
+
+    const TRIM: u64 = 11;
+
+    const PRUNE: u64 = 12;
+
+    const REORGANISE: u64 = 13;
+
+    const KEEP: u64 = 14;
+
+    const ANSWER: u64 = 15;
+
+    const LOSE: u64 = 16;
+
+    const LAYOUT: u64 = 17;
+
+    const RANGES: u64 = 18;
+
+    const ANSWERS: u64 = 19;
+
+    const ENDS: u64 = 20;
+}
+
+// Where a word is known by its number, no arm of a `match` spells it out, which is dear to prove.
+fn named(line: Line, n: u64) -> Line {
+    nth(
+        line,
+        b" begin deliver drop stop restart giveup forget append read fill trim prune reorganise keep answer lose layout ranges = :",
+        n,
+    )
+}
+
+fn numbered(line: Line, n: u64, value: u64) -> Line {
+    word(named(line, n), value)
+}
+
+fn set(line: Line, c: Chain) -> Line {
     let units = c.units;
-    let place = sign(line, at, b' ');
-    list(line, place, &units, c.count)
+    list(line, &units, c.count)
 }
 
 // The first `count` sets.
-fn sets(line: &mut [u8], at: usize, chains: [Chain; 16], count: u8) -> usize {
+fn sets(before: Line, chains: [Chain; 16], count: u8) -> Line {
     let n = smaller(size(count), 16);
-    let mut place = at;
+    let mut line = before;
     let mut i = 0;
     while i < n {
         let c = chains[i];
-        place = set(line, place, c);
+        line = set(line, c);
         i += 1;
     }
-    place
+    line
 }
 
-fn range(line: &mut [u8], at: usize, r: Range) -> usize {
-    let mut place = word(line, at, r.start.0);
-    place = sign(line, place, b',');
-    number(line, place, r.sets as u64)
-}
-
-fn ranges(line: &mut [u8], at: usize, all: [Range; 8], count: u8) -> usize {
+fn ranges(before: Line, all: [Range; 8], count: u8) -> Line {
     let n = smaller(size(count), 8);
-    let mut place = at;
+    let mut line = before;
     let mut i = 0;
     while i < n {
         let r = all[i];
-        place = range(line, place, r);
+        line = sign(word(line, r.start.0), b',');
+        line = number(line, r.sets as u64);
         i += 1;
     }
-    place
-}
-
-fn layout(line: &mut [u8], at: usize, l: Layout) -> usize {
-    let chains = l.sets;
-    let all = l.ranges;
-    let mut place = text(line, at, b" layout");
-    place = word(line, place, l.epoch.0 as u64);
-    place = sets(line, place, chains, l.set_count);
-    place = text(line, place, b" ranges");
-    ranges(line, place, all, l.range_count)
+    line
 }
 
 // Before the steps: the layout drawn, and what making a fresh yard of it answers.
-pub(crate) fn first_line(line: &mut [u8], seed: u64, steps: u64, l: Layout, answer: u8) -> usize {
-    let mut place = text(line, 0, b"run");
-    place = word(line, place, seed);
-    place = word(line, place, steps);
-    place = layout(line, place, l);
-    place = text(line, place, b" =");
-    word(line, place, answer as u64)
+pub(crate) fn first_line(seed: u64, steps: u64, l: Layout, answer: u8) -> Line {
+    let chains = l.sets;
+    let all = l.ranges;
+    let mut line = word(text(blank(), b"run"), seed);
+    line = numbered(word(line, steps), Word::LAYOUT, l.epoch.0 as u64);
+    line = named(sets(line, chains, l.set_count), Word::RANGES);
+    line = ranges(line, all, l.range_count);
+    numbered(line, Word::ANSWERS, answer as u64)
 }
 
-fn appended(line: &mut [u8], at: usize, len: u8, bytes: [u8; 32]) -> usize {
-    let mut place = text(line, at, b" append");
-    place = word(line, place, len as u64);
-    place = sign(line, place, b' ');
-    hex(line, place, &bytes, len)
-}
-
-fn changed(line: &mut [u8], at: usize, change: Change) -> usize {
+fn changed(line: Line, change: Change) -> Line {
     let drops = change.drops;
     let wish = change.wish;
     let chains = wish.sets;
-    let mut place = text(line, at, b" reorganise ");
-    place = list(line, place, &drops, change.count);
-    sets(line, place, chains, wish.count)
+    let dropped = list(named(line, Word::REORGANISE), &drops, change.count);
+    sets(dropped, chains, wish.count)
 }
 
-fn with_position(line: &mut [u8], at: usize, words: &[u8], p: Position) -> usize {
-    let place = text(line, at, words);
-    word(line, place, p.0)
-}
-
-fn job(line: &mut [u8], at: usize, asked: Job) -> usize {
+fn job(line: Line, asked: Job) -> Line {
     let work = asked.work;
     let bytes = asked.bytes;
     let change = asked.change;
     match work {
-        Work::Append => appended(line, at, asked.len, bytes),
-        Work::Read(p) => with_position(line, at, b" read", p),
-        Work::Fill(p) => with_position(line, at, b" fill", p),
-        Work::Trim(p) => with_position(line, at, b" trim", p),
-        Work::Prune(p) => with_position(line, at, b" prune", p),
-        Work::Reorganise => changed(line, at, change),
+        Work::Append => hex(
+            numbered(line, Word::APPEND, asked.len as u64),
+            bytes,
+            asked.len,
+        ),
+        Work::Read(p) => numbered(line, Word::READ, p.0),
+        Work::Fill(p) => numbered(line, Word::FILL, p.0),
+        Work::Trim(p) => numbered(line, Word::TRIM, p.0),
+        Work::Prune(p) => numbered(line, Word::PRUNE, p.0),
+        Work::Reorganise => changed(line, change),
     }
 }
 
-fn with_number(line: &mut [u8], at: usize, words: &[u8], n: u8) -> usize {
-    let place = text(line, at, words);
-    word(line, place, n as u64)
+fn either(line: Line, first: bool, yes: u64, no: u64) -> Line {
+    if first {
+        named(line, yes)
+    } else {
+        named(line, no)
+    }
 }
 
-fn delivered(line: &mut [u8], at: usize, i: u8, keeps: bool, keeps_answer: bool) -> usize {
-    let mut place = with_number(line, at, b" deliver", i);
-    place = either(line, place, keeps, b" keep", b" drop");
-    either(line, place, keeps_answer, b" answer", b" lose")
+fn delivered(line: Line, i: u8, keeps: bool, keeps_answer: bool) -> Line {
+    let kept = either(
+        numbered(line, Word::DELIVER, i as u64),
+        keeps,
+        Word::KEEP,
+        Word::DROP,
+    );
+    either(kept, keeps_answer, Word::ANSWER, Word::LOSE)
 }
 
-fn step(line: &mut [u8], at: usize, s: Step, asked: Job) -> usize {
+fn step(line: Line, s: Step, asked: Job) -> Line {
     match s {
-        Step::Begin(c) => {
-            let place = with_number(line, at, b" begin", c);
-            job(line, place, asked)
-        }
-        Step::Deliver(i, keeps, keeps_answer) => delivered(line, at, i, keeps, keeps_answer),
-        Step::Drop(i) => with_number(line, at, b" drop", i),
-        Step::Stop(u) => with_number(line, at, b" stop", u),
-        Step::Restart(c) => with_number(line, at, b" restart", c),
-        Step::GiveUp(c) => with_number(line, at, b" giveup", c),
-        Step::Forget => text(line, at, b" forget"),
+        Step::Begin(c) => job(numbered(line, Word::BEGIN, c as u64), asked),
+        Step::Deliver(i, keeps, keeps_answer) => delivered(line, i, keeps, keeps_answer),
+        Step::Drop(i) => numbered(line, Word::DROP, i as u64),
+        Step::Stop(u) => numbered(line, Word::STOP, u as u64),
+        Step::Restart(c) => numbered(line, Word::RESTART, c as u64),
+        Step::GiveUp(c) => numbered(line, Word::GIVE_UP, c as u64),
+        Step::Forget => named(line, Word::FORGET),
     }
-}
-
-fn page(line: &mut [u8], at: usize, g: Page) -> usize {
-    let bytes = g.bytes;
-    let mut place = word(line, at, g.kind as u64);
-    place = sign(line, place, b' ');
-    hex(line, place, &bytes, g.len)
-}
-
-// Nothing where no operation ended.
-pub(crate) fn outcome(line: &mut [u8], at: usize, who: u8, o: Outcome) -> usize {
-    let g = o.page;
-    if who == 0 {
-        return at;
-    }
-    let mut place = with_number(line, at, b" :", who);
-    place = word(line, place, o.number as u64);
-    place = word(line, place, o.position.0);
-    place = word(line, place, o.epoch.0 as u64);
-    page(line, place, g)
 }
 
 // The step `n`, what it answers, and how many letters there are then.
-pub(crate) fn step_line(
-    line: &mut [u8],
-    n: u32,
-    s: Step,
-    asked: Job,
-    answer: u8,
-    letters: u8,
-) -> usize {
-    let mut place = number(line, 0, n as u64);
-    place = step(line, place, s, asked);
-    place = text(line, place, b" =");
-    place = word(line, place, answer as u64);
-    word(line, place, letters as u64)
+pub(crate) fn step_line(n: u32, s: Step, asked: Job, answer: u8, letters: u8) -> Line {
+    let line = step(number(blank(), n as u64), s, asked);
+    word(numbered(line, Word::ANSWERS, answer as u64), letters as u64)
 }
 
-pub(crate) fn last_line(line: &mut [u8], units: u64, letters: u64, rest: u64) -> usize {
-    let mut place = text(line, 0, b"end");
-    place = word(line, place, units);
-    place = word(line, place, letters);
-    word(line, place, rest)
+// Nothing where no operation ended.
+pub(crate) fn outcome(before: Line, who: u8, o: Outcome) -> Line {
+    let page = o.page;
+    let bytes = page.bytes;
+    if who == 0 {
+        return before;
+    }
+    let mut line = numbered(before, Word::ENDS, who as u64);
+    line = word(line, o.number as u64);
+    line = word(line, o.position.0);
+    line = word(line, o.epoch.0 as u64);
+    line = word(line, page.kind as u64);
+    hex(line, bytes, page.len)
+}
+
+pub(crate) fn last_line(units: u64, letters: u64, rest: u64) -> Line {
+    let line = text(blank(), b"end");
+    word(word(word(line, units), letters), rest)
 }

@@ -1,14 +1,14 @@
 // What the drawing of a step looks at: the yard, the run so far, and the mood.
-ghost use Prim.Native.Nat.{_<_};
 use crate::memo::Memo;
 use crate::start::Mood;
-use client::state::Client;
 use kept::Kept;
 
 pub(crate) struct Seen {
     // Letters in the bag.
     pub letters: u8,
+    // Which clients are busy, and whether all are.
     pub busy: [bool; 4],
+    pub full: bool,
     pub stopped: [bool; 8],
     // The sequencer's count.
     pub next: u64,
@@ -16,34 +16,27 @@ pub(crate) struct Seen {
     pub mood: Mood,
 }
 
-fn is_busy(clients: [Client; 4], i: usize) -> bool
-    requires { ⌜ i < 4 ⌝ }
-{
-    let client = clients[i];
-    let stage = client.stage;
-    stage.is_busy()
-}
-
-fn busy_clients(clients: [Client; 4]) -> [bool; 4] {
-    [
-        is_busy(clients, 0),
-        is_busy(clients, 1),
-        is_busy(clients, 2),
-        is_busy(clients, 3),
-    ]
-}
-
 pub(crate) fn look(kept: Kept, memo: Memo, mood: Mood) -> Seen {
     let yard = kept.yard;
-    let seq = kept.sequencer;
     let clients = yard.clients;
+    let mut busy = [false; 4];
+    let mut full = true;
+    let mut i: usize = 0;
+    while i < 4 {
+        let client = clients[i];
+        let stage = client.stage;
+        let is_busy = stage.is_busy();
+        busy[i] = is_busy;
+        full = full & is_busy;
+        i += 1;
+    }
     let stopped = yard.stopped;
-    let busy = busy_clients(clients);
     Seen {
         letters: yard.count,
         busy,
+        full,
         stopped,
-        next: seq.next.0,
+        next: kept.sequencer.next.0,
         memo,
         mood,
     }

@@ -68,7 +68,9 @@ fn with_stranger(set: Chain) -> Chain {
     }
 }
 
-fn first_sets(raw: [u64; 64], count: u64) -> [Chain; 16] {
+fn first_sets(raw: [u64; 64], count: u64) -> [Chain; 16]
+    requires { ⌜ count ≤ 4 ⌝ }
+{
     let mut sets = drawn_sets(raw, 16, count);
     if spoils(raw, 3) {
         let first = sets[0];
@@ -92,43 +94,24 @@ pub(crate) fn drawn_layout(raw: [u64; 64]) -> Layout {
     }
 }
 
-fn keep_of(n: u64) -> u64 {
-    match n {
-        0 => 1,
-        1 => 4,
-        2 => 10,
-        _ => 28,
-    }
-}
-
-fn lose_of(n: u64) -> u64 {
-    match n {
-        0 => 0,
-        1 => 1,
-        2 => 2,
-        _ => 4,
-    }
-}
-
 // A busy run loses nothing and doubles little.
 pub(crate) fn drawn_mood(raw: [u64; 64]) -> Mood {
+    let keeps = [1u64, 4, 10, 28];
+    let loses = [0u64, 1, 2, 4];
     let busy = of(raw, 7, 4) == 0;
-    let tall = of(raw, 6, 8) == 0;
-    let mortal = of(raw, 9, 3) == 0;
+    let k = of(raw, 4, 4) as usize;
+    let l = of(raw, 5, 4) as usize;
+    let mut keep = keeps[k];
+    let mut lose = loses[l];
     if busy {
-        return Mood {
-            keep: 1,
-            lose: 0,
-            tall,
-            busy,
-            mortal,
-        };
+        keep = 1;
+        lose = 0;
     }
     Mood {
-        keep: keep_of(of(raw, 4, 4)),
-        lose: lose_of(of(raw, 5, 4)),
-        tall,
+        keep,
+        lose,
+        tall: of(raw, 6, 8) == 0,
         busy,
-        mortal,
+        mortal: of(raw, 9, 3) == 0,
     }
 }

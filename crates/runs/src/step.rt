@@ -1,6 +1,6 @@
 // A step of a run, drawn.
 ghost use Prim.Native.Nat.{_<_, _≤_};
-use crate::draw::bit;
+use crate::change::stopped_units;
 use crate::draw::of;
 use crate::job::drawn_job;
 use crate::job::no_job;
@@ -50,10 +50,6 @@ fn is_busy(busy: [bool; 4], c: u8) -> bool
 {
     let at = size(c) - 1;
     busy[at]
-}
-
-fn all_busy(busy: [bool; 4]) -> bool {
-    busy[0] & busy[1] & busy[2] & busy[3]
 }
 
 // The first idle one of a client and those that follow it, 1 after 4; itself where none is idle.
@@ -124,10 +120,6 @@ fn to_drop(raw: [u64; 64], letters: u8) -> u8 {
     }
 }
 
-fn stopped_count(s: [bool; 8]) -> u64 {
-    bit(s[0]) + bit(s[1]) + bit(s[2]) + bit(s[3]) + bit(s[4]) + bit(s[5]) + bit(s[6]) + bit(s[7])
-}
-
 // Units stop only in a mortal run, and at most two: else 0 stands for a running one.
 fn to_stop(raw: [u64; 64], stopped: [bool; 8], mortal: bool) -> u8 {
     let u = of(raw, 4, 10) as u8;
@@ -141,7 +133,7 @@ fn to_stop(raw: [u64; 64], stopped: [bool; 8], mortal: bool) -> u8 {
     if stopped[at] {
         return u;
     }
-    if mortal & (stopped_count(stopped) < 2) {
+    if mortal & (stopped_units(stopped).count < 2) {
         u
     } else {
         0
@@ -156,10 +148,10 @@ fn delivery(raw: [u64; 64], seen: Seen) -> Step {
 }
 
 // Where no rare step applies.
-fn common(raw: [u64; 64], seen: Seen, q: u64, full: bool) -> Step {
+fn common(raw: [u64; 64], seen: Seen, q: u64) -> Step {
     let busy = seen.busy;
     let empty = seen.letters == 0;
-    if empty & (q < 4) & full {
+    if empty & (q < 4) & seen.full {
         return Step::GiveUp(who_of(raw));
     }
     if empty & (q < 7) {
@@ -169,7 +161,7 @@ fn common(raw: [u64; 64], seen: Seen, q: u64, full: bool) -> Step {
 }
 
 // The restarts, stops and forgets.
-fn rare(raw: [u64; 64], seen: Seen, q: u64, full: bool) -> Step {
+fn rare(raw: [u64; 64], seen: Seen, q: u64) -> Step {
     let mood = seen.mood;
     let stopped = seen.stopped;
     let r = of(raw, 0, 128);
@@ -182,7 +174,7 @@ fn rare(raw: [u64; 64], seen: Seen, q: u64, full: bool) -> Step {
     if (r == 38) & (q < 4) {
         return Step::Forget;
     }
-    common(raw, seen, q, full)
+    common(raw, seen, q)
 }
 
 // The step of number `n`, of those that apply the first.
@@ -194,11 +186,10 @@ fn step_of(raw: [u64; 64], seen: Seen, n: u32) -> Step {
     let who = who_of(raw);
     let r = of(raw, 0, 128);
     let q = of(raw, 1, 8);
-    let full = all_busy(busy);
     if memo.is_stuck & (2 <= q) {
         return Step::Drop(memo.stuck);
     }
-    if (r < 24) & (!full | (q == 0)) {
+    if (r < 24) & (!seen.full | (q == 0)) {
         return Step::Begin(to_begin(raw, busy));
     }
     if (24 <= r) & (r < 34) & (!is_lately(begun, who, n) | (q == 0)) {
@@ -207,7 +198,7 @@ fn step_of(raw: [u64; 64], seen: Seen, n: u32) -> Step {
     if (34 <= r) & (r < 36) & (!mood.busy | (q == 0)) {
         return Step::Drop(to_drop(raw, seen.letters));
     }
-    rare(raw, seen, q, full)
+    rare(raw, seen, q)
 }
 
 pub(crate) fn choose(raw: [u64; 64], seen: Seen, n: u32) -> Chosen {

@@ -1,8 +1,22 @@
-// A line is built in a lent buffer: each function puts something at a place and gives the place after it. What does not fit is left out.
+// A line is built and then written with one call. What does not fit is left out.
 ghost use Prim.Native.Nat.{_≤_};
+use crate::draw::bit;
 use libc::STDOUT_FILENO;
 use num::bytes::size;
 use num::bytes::wide;
+
+// The bytes so far, of which there are `at`.
+pub(crate) struct Line {
+    pub at: usize,
+    pub bytes: [u8; 256],
+}
+
+pub(crate) fn blank() -> Line {
+    Line {
+        at: 0,
+        bytes: [0u8; 256],
+    }
+}
 
 pub(crate) fn smaller(a: usize, b: usize) -> usize
     ensures { λ r. ⌜ r ≤ b ⌝ }
@@ -10,44 +24,51 @@ pub(crate) fn smaller(a: usize, b: usize) -> usize
     if a <= b { a } else { b }
 }
 
-pub(crate) fn sign(line: &mut [u8], at: usize, b: u8) -> usize {
-    if at < line.len() {
-        line[at] = b;
-        return at + 1;
+pub(crate) fn sign(mut line: Line, b: u8) -> Line {
+    let at = line.at;
+    if at < 256 {
+        line.bytes[at] = b;
+        line.at = at + 1;
     }
-    at
+    line
+}
+
+fn sign_if(line: Line, is_wanted: bool, b: u8) -> Line {
+    if is_wanted { sign(line, b) } else { line }
 }
 
 // Some words.
-pub(crate) fn text(line: &mut [u8], at: usize, words: &[u8]) -> usize {
-    let mut place = at;
+pub(crate) fn text(mut line: Line, words: &[u8]) -> Line {
     let mut i = 0;
     while i < words.len() {
-        place = sign(line, place, words[i]);
+        line = sign(line, words[i]);
         i += 1;
     }
-    place
+    line
 }
 
-// One of two.
-pub(crate) fn either(line: &mut [u8], at: usize, first: bool, yes: &[u8], no: &[u8]) -> usize {
-    if first {
-        return text(line, at, yes);
+// The word of that number, from 1 on, with the space that stands before it.
+pub(crate) fn nth(mut line: Line, words: &[u8], n: u64) -> Line {
+    let mut spaces: u64 = 0;
+    let mut i = 0;
+    while i < words.len() {
+        spaces += bit(words[i] == b' ');
+        line = sign_if(line, spaces == n, words[i]);
+        i += 1;
     }
-    text(line, at, no)
+    line
 }
 
 // A decimal number.
-pub(crate) fn number(line: &mut [u8], at: usize, n: u64) -> usize {
+pub(crate) fn number(line: Line, n: u64) -> Line {
     let mut digits = [0u8; 20];
     let k = io::decimal(n, &mut digits);
-    text(line, at, &digits[..k])
+    text(line, &digits[..k])
 }
 
 // A space and a number.
-pub(crate) fn word(line: &mut [u8], at: usize, n: u64) -> usize {
-    let place = sign(line, at, b' ');
-    number(line, place, n)
+pub(crate) fn word(line: Line, n: u64) -> Line {
+    number(sign(line, b' '), n)
 }
 
 // The last hex digit.
@@ -56,44 +77,29 @@ fn digit(n: u8) -> u8 {
     if d < 10 { 48 + d } else { 87 + d }
 }
 
-// The first `count` bytes, two digits each; `-` for no bytes.
-pub(crate) fn hex(line: &mut [u8], at: usize, bytes: &[u8], count: u8) -> usize {
-    if count == 0 {
-        return sign(line, at, b'-');
-    }
-    let n = smaller(size(count), bytes.len());
-    let mut place = at;
+// A space and the first `count` bytes, two digits each; `-` for no bytes.
+pub(crate) fn hex(before: Line, bytes: [u8; 32], count: u8) -> Line {
+    let n = smaller(size(count), 32);
+    let mut line = sign_if(sign(before, b' '), n == 0, b'-');
     let mut i = 0;
     while i < n {
-        place = sign(line, place, digit(bytes[i] / 16));
-        place = sign(line, place, digit(bytes[i]));
+        line = sign(line, digit(bytes[i] / 16));
+        line = sign(line, digit(bytes[i]));
         i += 1;
     }
-    place
+    line
 }
 
-// The number, and before it a comma where it is not the first.
-fn listed(line: &mut [u8], at: usize, is_first: bool, n: u8) -> usize {
-    if is_first {
-        return number(line, at, wide(n));
-    }
-    let place = sign(line, at, b',');
-    number(line, place, wide(n))
-}
-
-// The first `count` numbers with commas between; `-` for none.
-pub(crate) fn list(line: &mut [u8], at: usize, numbers: &[u8], count: u8) -> usize {
-    if count == 0 {
-        return sign(line, at, b'-');
-    }
+// A space and the first `count` numbers with commas between; `-` for none.
+pub(crate) fn list(before: Line, numbers: &[u8], count: u8) -> Line {
     let n = smaller(size(count), numbers.len());
-    let mut place = at;
+    let mut line = sign_if(sign(before, b' '), n == 0, b'-');
     let mut i = 0;
     while i < n {
-        place = listed(line, place, i == 0, numbers[i]);
+        line = number(sign_if(line, 0 < i, b','), wide(numbers[i]));
         i += 1;
     }
-    place
+    line
 }
 
 // Writes the line up to a place, with one call; whether it could.
@@ -105,7 +111,8 @@ fn write(line: &[u8], end: usize) -> bool {
 }
 
 // Ends the line, and writes it; whether it could.
-pub(crate) fn say(line: &mut [u8], at: usize) -> bool {
-    let end = sign(line, at, b'\n');
-    write(line, end)
+pub(crate) fn say(line: Line) -> bool {
+    let ended = sign(line, b'\n');
+    let bytes = ended.bytes;
+    write(&bytes, ended.at)
 }

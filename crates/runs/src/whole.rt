@@ -1,14 +1,13 @@
 // The digests of a whole yard: its letters, and the rest but for the memories.
-ghost use Prim.Native.Nat.{_<_};
 use crate::digest::byte;
 use crate::digest::layout;
 use crate::digest::number;
 use crate::digest::page;
 use crate::draw::bit;
-use client::message::Ask;
-use client::message::Reply;
-use client::state::Client;
-use client::state::Stage;
+use client::Ask;
+use client::Client;
+use client::Reply;
+use client::Stage;
 use kept::Kept;
 use rule::Body;
 use rule::Letter;
@@ -123,10 +122,7 @@ fn stage_number(stage: Stage) -> u8 {
 }
 
 // An idle client has position 0, and a blank layout, whose epoch is 0.
-fn client(d: u64, clients: [Client; 4], i: usize) -> u64
-    requires { ⌜ i < 4 ⌝ }
-{
-    let c = clients[i];
+fn client(d: u64, c: Client) -> u64 {
     let stage = c.stage;
     let fetched = c.layout;
     let mut e = number(d, c.life as u64, 2);
@@ -137,10 +133,14 @@ fn client(d: u64, clients: [Client; 4], i: usize) -> u64
 }
 
 fn of_clients(d: u64, clients: [Client; 4]) -> u64 {
-    let first = client(d, clients, 0);
-    let second = client(first, clients, 1);
-    let third = client(second, clients, 2);
-    client(third, clients, 3)
+    let mut e = d;
+    let mut i: usize = 0;
+    while i < 4 {
+        let c = clients[i];
+        e = client(e, c);
+        i += 1;
+    }
+    e
 }
 
 fn of_stopped(d: u64, stopped: [bool; 8]) -> u64 {
@@ -156,12 +156,11 @@ fn of_stopped(d: u64, stopped: [bool; 8]) -> u64 {
 // Held layout, stopped units, sequencer, clients.
 pub(crate) fn of_rest(kept: Kept) -> u64 {
     let yard = kept.yard;
-    let seq = kept.sequencer;
     let held = yard.held;
     let stopped = yard.stopped;
     let clients = yard.clients;
-    let mut d = layout(1, held);
-    d = of_stopped(d, stopped);
+    let seq = kept.sequencer;
+    let mut d = of_stopped(layout(1, held), stopped);
     d = number(d, seq.epoch.0 as u64, 4);
     d = number(d, seq.next.0, 8);
     of_clients(d, clients)

@@ -15,10 +15,10 @@ use Rattle.layout.specs.Successor.{sublist, keepsSets, keepsSpans, lawful}
 use Rattle.unit.specs.State.{lookup, insert, lastEnd, edge}
 use Rattle.unit.specs.Unit.{writeSays, written, writeUnit, readSays, readShows, sealSays, sealTells, sealedAt, sealUnit}
 use Rattle.sequencer.specs.Rules.{number, position, told, after as sequencer-after}
-use Rattle.client.specs.declared.message.Ask.the-variants as ask
-use Rattle.client.specs.declared.message.Reply.the-variants.{Shown}
+use Rattle.client.specs.declared.Ask.the-variants as ask
+use Rattle.client.specs.declared.Reply.the-variants.{Shown}
 use Rattle.client.specs.Message.{noPage}
-use Rattle.client.specs.declared.state.Work.the-variants.{Read}
+use Rattle.client.specs.declared.Work.the-variants.{Read}
 use Rattle.client.specs.Client.{idle, inStage, atPosition, holding, planning, jobOf, reorganiseOf, noChange}
 use Rattle.client.specs.Turn.{outcomeOf, over, ends, numbered, sends}
 use Rattle.client.specs.Way.{headFor, tailFor, afterFor, unitAbove, planFor, startFor}

@@ -9,11 +9,11 @@ use Rattle.num.specs.Limits.{limit}
 use Rattle.num.specs.declared.Position.{Position}
 use Rattle.layout.specs.declared.Layout.{Layout}
 use Rattle.layout.specs.Value.{blank}
-use Rattle.client.specs.declared.message.Ask.{Ask}
-use Rattle.client.specs.declared.message.Ask.the-variants as ask
+use Rattle.client.specs.declared.Ask.{Ask}
+use Rattle.client.specs.declared.Ask.the-variants as ask
 use Rattle.client.specs.Message.{noPage, plain}
-use Rattle.client.specs.declared.state.Work.the-variants.{Read}
-use Rattle.client.specs.declared.turn.Outcome.{Outcome}
+use Rattle.client.specs.declared.Work.the-variants.{Read}
+use Rattle.client.specs.declared.Outcome.{Outcome}
 use Rattle.client.specs.Client.{busy, jobOf}
 use Rattle.rule.specs.World.{World, clientAt, letterAt}
 use Rattle.rule.specs.Serve.{serve}

@@ -11,12 +11,12 @@ use Rattle.num.proofs.Tests.{false-true}
 use Rattle.num.specs.declared.Position.{Position}
 use Rattle.layout.specs.Value.{layOf, goodValue}
 use Rattle.layout.specs.Places.{setAt, headOf, tailOf, after}
-use Rattle.client.specs.declared.message.Reply.{Reply}
-use Rattle.client.specs.declared.message.Reply.the-variants.{Held, Given, Fine, Shown, Edge, Refused}
-use Rattle.client.specs.declared.state.Stage.the-variants.{Drawing, Writing}
-use Rattle.client.specs.declared.state.Client.{Client}
+use Rattle.client.specs.declared.Reply.{Reply}
+use Rattle.client.specs.declared.Reply.the-variants.{Held, Given, Fine, Shown, Edge, Refused}
+use Rattle.client.specs.declared.Stage.the-variants.{Drawing, Writing}
+use Rattle.client.specs.declared.Client.{Client}
 use Rattle.client.specs.Message.{noPage, plain, bearing}
-use Rattle.client.specs.declared.message.Ask.the-variants as ask
+use Rattle.client.specs.declared.Ask.the-variants as ask
 use Rattle.client.specs.Client.{tokenLimit, inStage, atPosition}
 use Rattle.client.specs.Turn.{outcomeOf, rests, ends, otherwise}
 use Rattle.client.specs.Way.{headFor, tailFor, afterFor}

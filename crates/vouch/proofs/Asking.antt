@@ -13,11 +13,11 @@ use Rattle.num.specs.Checks.{Check, lowest}
 use Rattle.num.proofs.Tests.{cond-zero}
 use Rattle.layout.specs.declared.Layout.{Layout}
 use Rattle.layout.specs.Value.{padded}
-use Rattle.client.specs.declared.message.Ask.the-variants as ask
-use Rattle.client.specs.declared.state.Work.{Work}
-use Rattle.client.specs.declared.state.Work.the-variants as work
+use Rattle.client.specs.declared.Ask.the-variants as ask
+use Rattle.client.specs.declared.Work.{Work}
+use Rattle.client.specs.declared.Work.the-variants as work
 use Rattle.client.specs.declared.state.Job.{Job}
-use Rattle.client.specs.declared.state.Client.{Client}
+use Rattle.client.specs.declared.Client.{Client}
 use Rattle.client.specs.Message.{plain}
 use Rattle.client.specs.Client.{busy, lastNumber}
 use Rattle.client.specs.Turn.{rests, sends}

@@ -9,14 +9,14 @@ use borrow.Author.Tests.{lt-leb, eq-eqb}
 use lib.Dec.{eqb, leb}
 use lib.ListN.{length}
 use Rattle.layout.specs.Value.{goodValue}
-use Rattle.client.specs.declared.message.Reply.the-variants.{Held}
-use Rattle.client.specs.declared.message.Response.{Response}
-use Rattle.client.specs.declared.state.Client.{Client}
+use Rattle.client.specs.declared.Reply.the-variants.{Held}
+use Rattle.client.specs.declared.Response.{Response}
+use Rattle.client.specs.declared.Client.{Client}
 use Rattle.client.specs.declared.state.Job.{Job}
-use Rattle.client.specs.declared.state.Stage.the-variants.{Idle}
+use Rattle.client.specs.declared.Stage.the-variants.{Idle}
 use Rattle.client.specs.declared.turn.Turn.{Turn}
 use Rattle.client.specs.Message.{noPage, plain}
-use Rattle.client.specs.declared.message.Ask.the-variants.{Fetch}
+use Rattle.client.specs.declared.Ask.the-variants.{Fetch}
 use Rattle.client.specs.Client.{busy, holding, lastNumber}
 use Rattle.client.specs.Turn.{numbered, next, sent, sends}
 use Rattle.client.specs.Job.{past, tooLong}

@@ -10,7 +10,7 @@ use Rattle.layout.specs.Value.{layOf, goodValue}
 use Rattle.layout.proofs.Values.{value-of-good}
 use Rattle.unit.specs.State.{State}
 use Rattle.unit.specs.Unit.{freshUnit}
-use Rattle.client.specs.declared.state.Client.{Client}
+use Rattle.client.specs.declared.Client.{Client}
 use Rattle.client.specs.Client.{idle, fresh as freshClient}
 use Rattle.rule.specs.World.{clientAt, unitAt}
 use Rattle.rule.specs.Fresh.{freshUnits, freshWorld}

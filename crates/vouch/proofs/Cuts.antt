@@ -10,13 +10,13 @@ use borrow.Author.Tests.{eqb-false}
 use Rattle.num.specs.declared.Position.{Position}
 use Rattle.layout.specs.Value.{layOf}
 use Rattle.layout.specs.Places.{setAt, after, nextUnit}
-use Rattle.client.specs.declared.message.Page.{Page as PageValue}
-use Rattle.client.specs.declared.message.Reply.the-variants.{Fine, Shown, Refused}
-use Rattle.client.specs.declared.state.Work.the-variants as work
-use Rattle.client.specs.declared.state.Stage.the-variants.{Reading, Trimming, Pruning}
-use Rattle.client.specs.declared.state.Client.{Client}
+use Rattle.client.specs.declared.Page.{Page as PageValue}
+use Rattle.client.specs.declared.Reply.the-variants.{Fine, Shown, Refused}
+use Rattle.client.specs.declared.Work.the-variants as work
+use Rattle.client.specs.declared.Stage.the-variants.{Reading, Trimming, Pruning}
+use Rattle.client.specs.declared.Client.{Client}
 use Rattle.client.specs.Message.{noPage, plain}
-use Rattle.client.specs.declared.message.Ask.the-variants as ask
+use Rattle.client.specs.declared.Ask.the-variants as ask
 use Rattle.client.specs.Client.{inStage}
 use Rattle.client.specs.Turn.{outcomeOf, ends}
 use Rattle.client.specs.Way.{afterFor, unitAbove}

@@ -10,13 +10,13 @@ use lib.ListN.{length}
 use borrow.Author.Tests.{eqb-true}
 use Rattle.num.proofs.Tests.{and-both, or-false}
 use Rattle.layout.specs.declared.Layout.{Layout}
-use Rattle.client.specs.declared.message.Ask.{Ask}
-use Rattle.client.specs.declared.message.Reply.{Reply}
-use Rattle.client.specs.declared.message.Stamp.{Stamp}
+use Rattle.client.specs.declared.Ask.{Ask}
+use Rattle.client.specs.declared.Reply.{Reply}
+use Rattle.client.specs.declared.Stamp.{Stamp}
 use Rattle.client.specs.declared.state.Job.{Job}
-use Rattle.client.specs.declared.state.Stage.{Stage}
-use Rattle.client.specs.declared.state.Stage.the-variants.{Idle, Fetching, Drawing, Writing, Reading, Filling, Looking, Trimming, Pruning, Sealing, Offering, Starting}
-use Rattle.client.specs.declared.state.Client.{Client}
+use Rattle.client.specs.declared.Stage.{Stage}
+use Rattle.client.specs.declared.Stage.the-variants.{Idle, Fetching, Drawing, Writing, Reading, Filling, Looking, Trimming, Pruning, Sealing, Offering, Starting}
+use Rattle.client.specs.declared.Client.{Client}
 use Rattle.client.specs.declared.turn.Turn.{Turn}
 use Rattle.client.specs.Client.{busy}
 use Rattle.client.specs.Turn.{rests}

@@ -10,12 +10,12 @@ use borrow.Author.Tests.{eqb-true}
 use Rattle.num.proofs.Tests.{and-both}
 use Rattle.num.specs.declared.Position.{Position}
 use Rattle.layout.specs.declared.Layout.{Layout}
-use Rattle.client.specs.declared.message.Reply.{Reply}
-use Rattle.client.specs.declared.message.Response.{Response}
-use Rattle.client.specs.declared.message.Stamp.{Stamp}
-use Rattle.client.specs.declared.state.Work.the-variants as work
-use Rattle.client.specs.declared.state.Client.{Client}
-use Rattle.client.specs.declared.turn.Outcome.{Outcome}
+use Rattle.client.specs.declared.Reply.{Reply}
+use Rattle.client.specs.declared.Response.{Response}
+use Rattle.client.specs.declared.Stamp.{Stamp}
+use Rattle.client.specs.declared.Work.the-variants as work
+use Rattle.client.specs.declared.Client.{Client}
+use Rattle.client.specs.declared.Outcome.{Outcome}
 use Rattle.client.specs.declared.turn.Turn.{Turn}
 use Rattle.client.specs.Client.{busy}
 use Rattle.client.specs.Turn.{rests}

@@ -13,10 +13,10 @@ use Rattle.num.proofs.Tests.{and-both, neither}
 use Rattle.layout.specs.declared.Layout.{Layout}
 use Rattle.unit.specs.State.{State}
 use Rattle.sequencer.specs.declared.Sequencer.{Sequencer}
-use Rattle.client.specs.declared.message.Query.{Query}
-use Rattle.client.specs.declared.message.Response.{Response}
-use Rattle.client.specs.declared.message.Stamp.{Stamp}
-use Rattle.client.specs.declared.state.Client.{Client}
+use Rattle.client.specs.declared.Query.{Query}
+use Rattle.client.specs.declared.Response.{Response}
+use Rattle.client.specs.declared.Stamp.{Stamp}
+use Rattle.client.specs.declared.Client.{Client}
 use Rattle.client.specs.declared.turn.Turn.{Turn}
 use Rattle.client.specs.Client.{fresh, lastNumber}
 use Rattle.client.specs.Turn.{numbered, next, sends}

@@ -8,12 +8,12 @@ use lib.Dec.{eqb}
 use borrow.Author.Tests.{eqb-true, eqb-false}
 use Rattle.layout.specs.Value.{layOf}
 use Rattle.layout.specs.Places.{setAt, headOf, after}
-use Rattle.client.specs.declared.message.Page.{Page as PageValue}
-use Rattle.client.specs.declared.message.Reply.the-variants.{Fine, Shown, Refused}
-use Rattle.client.specs.declared.state.Stage.the-variants.{Filling, Looking}
-use Rattle.client.specs.declared.state.Client.{Client}
+use Rattle.client.specs.declared.Page.{Page as PageValue}
+use Rattle.client.specs.declared.Reply.the-variants.{Fine, Shown, Refused}
+use Rattle.client.specs.declared.Stage.the-variants.{Filling, Looking}
+use Rattle.client.specs.declared.Client.{Client}
 use Rattle.client.specs.Message.{plain, bearing}
-use Rattle.client.specs.declared.message.Ask.the-variants as ask
+use Rattle.client.specs.declared.Ask.the-variants as ask
 use Rattle.client.specs.Client.{inStage, carrying}
 use Rattle.client.specs.Turn.{ends, otherwise}
 use Rattle.client.specs.Way.{headFor, afterFor}

@@ -37,7 +37,7 @@ use Rattle.sequencer.specs.declared.Asked.the-variants.{Start}
 use Rattle.sequencer.specs.declared.Told.the-variants.{Number}
 use Rattle.sequencer.specs.Rules.{number, told, after}
 use Rattle.sequencer.specs.Rules.{position as positionAt}
-use Rattle.client.specs.declared.message.Reply.the-variants.{Edge}
+use Rattle.client.specs.declared.Reply.the-variants.{Edge}
 use Rattle.client.specs.Client.{noChange}
 use Rattle.rule.specs.World.{World, running, unitAt}
 use Rattle.rule.specs.Serve.{edged}

@@ -19,10 +19,10 @@ use Rattle.sequencer.specs.declared.Sequencer.{Sequencer}
 use Rattle.sequencer.specs.declared.Told.{Told}
 use Rattle.sequencer.specs.declared.Asked.the-variants as asked
 use Rattle.sequencer.specs.Rules.{after as sequencer-after}
-use Rattle.client.specs.declared.message.Ask.the-variants as ask
-use Rattle.client.specs.declared.message.Reply.the-variants.{Fine}
-use Rattle.client.specs.declared.state.Client.{Client}
-use Rattle.client.specs.declared.state.Stage.the-variants.{Offering, Starting}
+use Rattle.client.specs.declared.Ask.the-variants as ask
+use Rattle.client.specs.declared.Reply.the-variants.{Fine}
+use Rattle.client.specs.declared.Client.{Client}
+use Rattle.client.specs.declared.Stage.the-variants.{Offering, Starting}
 use Rattle.client.specs.declared.turn.Turn.{Turn}
 use Rattle.client.specs.Message.{noPage, plain, offering}
 use Rattle.client.specs.Client.{inStage, planning, idle, lastNumber}

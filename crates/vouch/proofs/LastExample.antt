@@ -16,8 +16,8 @@ use Rattle.layout.specs.Successor.{sublist, keepsSets, keepsSpans, lawful}
 use Rattle.unit.specs.State.{lookup, insert, lastEnd, edge}
 use Rattle.unit.specs.Unit.{writeSays, written, writeUnit, readSays, readShows, sealSays, sealTells, sealedAt, sealUnit}
 use Rattle.sequencer.specs.Rules.{number, position, told, after as sequencer-after}
-use Rattle.client.specs.declared.state.Work.the-variants.{Append, Read}
-use Rattle.client.specs.declared.state.Stage.the-variants.{Idle}
+use Rattle.client.specs.declared.Work.the-variants.{Append, Read}
+use Rattle.client.specs.declared.Stage.the-variants.{Idle}
 use Rattle.client.specs.declared.state.Job.{Job}
 use Rattle.client.specs.Client.{idle, inStage, atPosition, holding, planning, jobOf, reorganiseOf, noChange}
 use Rattle.client.specs.Turn.{outcomeOf, over, ends, numbered, sends}

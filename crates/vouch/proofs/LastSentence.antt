@@ -28,10 +28,10 @@ use Rattle.unit.specs.State.{Slot, State}
 use Rattle.unit.specs.Unit.{readSays, readShows}
 use Rattle.unit.proofs.Marks.{ReadTells, read-tells}
 use Rattle.unit.proofs.Marks.ReadTells.{read-position, read-sealed, read-trimmed, read-unwritten, read-page}
-use Rattle.client.specs.declared.state.Client.{Client}
+use Rattle.client.specs.declared.Client.{Client}
 use Rattle.client.specs.declared.state.Job.{Job}
-use Rattle.client.specs.declared.state.Work.the-variants.{Reorganise}
-use Rattle.client.specs.declared.turn.Outcome.{Outcome}
+use Rattle.client.specs.declared.Work.the-variants.{Reorganise}
+use Rattle.client.specs.declared.Outcome.{Outcome}
 use Rattle.client.specs.Client.{fresh, dropLimit, noChange, reorganiseOf, holding, planning, idle, lastNumber}
 use Rattle.client.specs.Turn.{numbered}
 use Rattle.client.specs.Turn.{ends as endsWith}

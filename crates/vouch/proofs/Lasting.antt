@@ -3,14 +3,14 @@
 use Prim.Native.Nat.{_≤_}
 use native.Mathlib.Omega.{arith}
 use Rattle.layout.specs.declared.Layout.{Layout}
-use Rattle.client.specs.declared.message.Page.{Page as PageValue}
-use Rattle.client.specs.declared.message.Ask.{Ask}
-use Rattle.client.specs.declared.message.Response.{Response}
-use Rattle.client.specs.declared.state.Work.{Work}
-use Rattle.client.specs.declared.state.Work.the-variants as work
-use Rattle.client.specs.declared.state.Stage.{Stage}
-use Rattle.client.specs.declared.state.Stage.the-variants.{Idle, Fetching, Drawing, Writing, Reading, Filling, Looking, Trimming, Pruning, Sealing, Offering, Starting}
-use Rattle.client.specs.declared.state.Client.{Client}
+use Rattle.client.specs.declared.Page.{Page as PageValue}
+use Rattle.client.specs.declared.Ask.{Ask}
+use Rattle.client.specs.declared.Response.{Response}
+use Rattle.client.specs.declared.Work.{Work}
+use Rattle.client.specs.declared.Work.the-variants as work
+use Rattle.client.specs.declared.Stage.{Stage}
+use Rattle.client.specs.declared.Stage.the-variants.{Idle, Fetching, Drawing, Writing, Reading, Filling, Looking, Trimming, Pruning, Sealing, Offering, Starting}
+use Rattle.client.specs.declared.Client.{Client}
 use Rattle.num.specs.declared.Position.{Position}
 use Rattle.history.specs.Words.{UnitNo, Pos, Epoch, Answer}
 use Rattle.history.specs.History.{History, _⊑_, Mark, held}

@@ -16,13 +16,13 @@ use Rattle.unit.specs.State.{State}
 use Rattle.unit.specs.Memory.{good, decode, encode, numberOf, valid}
 use Rattle.unit.specs.Unit.{freshUnit}
 use Rattle.unit.proofs.Decoding.{decode-encode, encode-good}
-use Rattle.client.specs.declared.state.Client.{Client}
-use Rattle.client.specs.declared.state.Stage.{Stage}
-use Rattle.client.specs.declared.state.Stage.the-variants.{Idle, Fetching, Drawing, Writing, Reading, Filling, Looking, Trimming, Pruning, Sealing, Offering, Starting}
+use Rattle.client.specs.declared.Client.{Client}
+use Rattle.client.specs.declared.Stage.{Stage}
+use Rattle.client.specs.declared.Stage.the-variants.{Idle, Fetching, Drawing, Writing, Reading, Filling, Looking, Trimming, Pruning, Sealing, Offering, Starting}
 use Rattle.client.specs.Client.{fresh}
 use Rattle.rule.specs.declared.Letter.{Letter}
 use Rattle.rule.specs.World.{World, blankLetter, unitAt, clientAt}
-use Rattle.rule.specs.Lent.{Lent, Outcomes, unitSize, goodUnits, fetched, goodClients, lentNumber, unitsIn, seen, unitsBytes, laid, left, done, steps}
+use Rattle.rule.specs.Lent.{Lent, Outcomes, unitSize, goodUnits, fetched, goodClients, testNumber, lentNumber, unitsIn, seen, unitsBytes, laid, left, done, steps}
 use Rattle.rule.specs.Fresh.{freshWorld, freshLent}
 use Rattle.history.specs.History.{History}
 use Rattle.vouch.specs.Runs.{Move, Moves, result, world}
@@ -174,7 +174,7 @@ module _ (b : Lent) (room : Room b) (w : World) (ok : Lendable w) where
       ∙ ap (λ (ls : List Letter). record { held = w .held; clients = w .clients; stopped = w .stopped; units = w .units; sequencer = w .sequencer; letters = ls }) letters-seen
 
   pub left-number : lentNumber (left b w) ≡ 0
-  unfolding lentNumber left
+  unfolding lentNumber testNumber left
   left-number =
       rw (
         subst (λ n. goodUnits 1 n (unitsBytes (w .units)) ≡ true) (ok .eight) (units-good (w .units) (ok .units-fit)),

@@ -9,19 +9,19 @@ use Rattle.num.specs.declared.Position.{Position}
 use Rattle.layout.specs.declared.Layout.{Layout}
 use Rattle.layout.specs.Value.{layOf, goodValue, blank}
 use Rattle.layout.specs.Places.{setAt}
-use Rattle.client.specs.declared.message.Page.{Page as PageValue}
-use Rattle.client.specs.declared.message.Ask.{Ask}
-use Rattle.client.specs.declared.message.Ask.the-variants.{Fetch, Token, Write, Read, Trim, Prune, Seal, Offer, Start}
-use Rattle.client.specs.declared.message.Reply.the-variants.{Held, Fine, Shown, Edge, Refused}
-use Rattle.client.specs.declared.message.Response.{Response}
-use Rattle.client.specs.declared.state.Work.{Work}
-use Rattle.client.specs.declared.state.Work.the-variants as work
-use Rattle.client.specs.declared.state.Stage.{Stage}
-use Rattle.client.specs.declared.state.Stage.the-variants.{Idle, Fetching, Drawing, Writing, Reading, Filling, Looking, Trimming, Pruning, Sealing, Offering, Starting}
-use Rattle.client.specs.declared.state.Client.{Client}
-use Rattle.client.specs.declared.turn.Outcome.{Outcome}
+use Rattle.client.specs.declared.Page.{Page as PageValue}
+use Rattle.client.specs.declared.Ask.{Ask}
+use Rattle.client.specs.declared.Ask.the-variants.{Fetch, Token, Write, Read, Trim, Prune, Seal, Offer, Start}
+use Rattle.client.specs.declared.Reply.the-variants.{Held, Fine, Shown, Edge, Refused}
+use Rattle.client.specs.declared.Response.{Response}
+use Rattle.client.specs.declared.Work.{Work}
+use Rattle.client.specs.declared.Work.the-variants as work
+use Rattle.client.specs.declared.Stage.{Stage}
+use Rattle.client.specs.declared.Stage.the-variants.{Idle, Fetching, Drawing, Writing, Reading, Filling, Looking, Trimming, Pruning, Sealing, Offering, Starting}
+use Rattle.client.specs.declared.Client.{Client}
+use Rattle.client.specs.declared.Outcome.{Outcome}
 use Rattle.client.specs.Message.{noPage}
-use Rattle.client.specs.declared.state.Change.{Change}
+use Rattle.client.specs.declared.Change.{Change}
 use Rattle.client.specs.Way.{dropsOf}
 use Rattle.layout.specs.Plan.{plannedFor}
 use Rattle.rule.specs.Serve.{bare}

@@ -12,8 +12,8 @@ use Rattle.layout.specs.Value.{layOf, goodValue}
 use Rattle.layout.specs.Holder.{offerAnswer, offeredTo, fetchedFrom}
 use Rattle.layout.proofs.Values.{value-of-good}
 use Rattle.layout.proofs.Holding.{installed as offered-installed, stays, offer-fine, fetched-good}
-use Rattle.client.specs.declared.message.Reply.{Reply}
-use Rattle.client.specs.declared.message.Reply.the-variants.{Held, Fine, Refused}
+use Rattle.client.specs.declared.Reply.{Reply}
+use Rattle.client.specs.declared.Reply.the-variants.{Held, Fine, Refused}
 use Rattle.client.specs.Message.{noPage}
 use Rattle.rule.specs.Serve.{saying, fetching}
 use Rattle.history.specs.Words.{UnitNo, Pos}

@@ -8,7 +8,7 @@ use native.Mathlib.Omega.{arith}
 use lib.Dec.{ltb}
 use lib.ListN.{length}
 use Rattle.layout.specs.declared.Layout.{Layout}
-use Rattle.layout.specs.declared.plan.Wish.{Wish}
+use Rattle.layout.specs.declared.Wish.{Wish}
 use Rattle.layout.specs.declared.plan.Started.{Started}
 use Rattle.layout.specs.Lay.{Lay, unitsOf}
 use Rattle.layout.specs.Value.{layOf, valueOf}

@@ -18,8 +18,8 @@ use Rattle.unit.proofs.Lookup.{held}
 use Rattle.unit.proofs.Shown.{shown, shown-below, shown-slot}
 use Rattle.unit.proofs.Marks.{ReadTells, read-tells, read-shown}
 use Rattle.unit.proofs.Marks.ReadTells.{read-position as tells-position, read-sealed as tells-sealed, read-trimmed as tells-trimmed, read-unwritten as tells-unwritten, read-page as tells-page}
-use Rattle.client.specs.declared.message.Reply.the-variants.{Shown, Refused}
-use Rattle.client.specs.declared.message.Response.{Response}
+use Rattle.client.specs.declared.Reply.the-variants.{Shown, Refused}
+use Rattle.client.specs.declared.Response.{Response}
 use Rattle.client.specs.Message.{pageLimit}
 use Rattle.rule.specs.Serve.{bare, kindOf, bytesOf}
 use Rattle.rule.specs.Serve.{pageOf as slotPage, shown as reading}

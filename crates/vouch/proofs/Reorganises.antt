@@ -12,13 +12,13 @@ use Rattle.num.specs.declared.Position.{Position}
 use Rattle.layout.specs.declared.Layout.{Layout}
 use Rattle.layout.specs.Value.{layOf}
 use Rattle.layout.specs.Places.{nextUnit}
-use Rattle.client.specs.declared.message.Reply.{Reply}
-use Rattle.client.specs.declared.message.Reply.the-variants.{Held, Given, Fine, Shown, Edge, Refused}
-use Rattle.client.specs.declared.state.Work.the-variants as work
-use Rattle.client.specs.declared.state.Stage.the-variants.{Sealing, Offering, Starting}
-use Rattle.client.specs.declared.state.Client.{Client}
+use Rattle.client.specs.declared.Reply.{Reply}
+use Rattle.client.specs.declared.Reply.the-variants.{Held, Given, Fine, Shown, Edge, Refused}
+use Rattle.client.specs.declared.Work.the-variants as work
+use Rattle.client.specs.declared.Stage.the-variants.{Sealing, Offering, Starting}
+use Rattle.client.specs.declared.Client.{Client}
 use Rattle.client.specs.Message.{plain}
-use Rattle.client.specs.declared.message.Ask.the-variants as ask
+use Rattle.client.specs.declared.Ask.the-variants as ask
 use Rattle.client.specs.Client.{inStage}
 use Rattle.client.specs.Turn.{rests, ends, otherwise}
 use Rattle.client.specs.Way.{unitAbove}

@@ -21,11 +21,11 @@ use Rattle.unit.specs.State.{State, edge}
 use Rattle.unit.specs.Unit.{freshUnit, sealUnit}
 use Rattle.unit.proofs.Lookup.{edge-limit}
 use Rattle.sequencer.specs.declared.Sequencer.{Sequencer}
-use Rattle.client.specs.declared.message.Ask.the-variants as ask
-use Rattle.client.specs.declared.message.Reply.{Reply}
-use Rattle.client.specs.declared.message.Reply.the-variants.{Edge}
-use Rattle.client.specs.declared.state.Client.{Client}
-use Rattle.client.specs.declared.state.Stage.the-variants.{Sealing}
+use Rattle.client.specs.declared.Ask.the-variants as ask
+use Rattle.client.specs.declared.Reply.{Reply}
+use Rattle.client.specs.declared.Reply.the-variants.{Edge}
+use Rattle.client.specs.declared.Client.{Client}
+use Rattle.client.specs.declared.Stage.the-variants.{Sealing}
 use Rattle.client.specs.Message.{plain}
 use Rattle.client.specs.Client.{inStage, lastNumber}
 use Rattle.client.specs.Turn.{numbered, next, sends}

@@ -7,12 +7,12 @@ use Rattle.num.proofs.Tests.{false-true}
 use Rattle.layout.specs.declared.Layout.{Layout}
 use Rattle.layout.specs.Value.{layOf, goodValue}
 use Rattle.layout.specs.Places.{setAt}
-use Rattle.client.specs.declared.message.Page.{Page as PageValue}
-use Rattle.client.specs.declared.message.Reply.the-variants.{Held}
-use Rattle.client.specs.declared.state.Work.{Work}
-use Rattle.client.specs.declared.state.Work.the-variants as work
-use Rattle.client.specs.declared.state.Stage.the-variants.{Drawing, Writing, Reading, Filling, Looking, Trimming, Pruning, Sealing, Offering, Starting}
-use Rattle.client.specs.declared.state.Client.{Client}
+use Rattle.client.specs.declared.Page.{Page as PageValue}
+use Rattle.client.specs.declared.Reply.the-variants.{Held}
+use Rattle.client.specs.declared.Work.{Work}
+use Rattle.client.specs.declared.Work.the-variants as work
+use Rattle.client.specs.declared.Stage.the-variants.{Drawing, Writing, Reading, Filling, Looking, Trimming, Pruning, Sealing, Offering, Starting}
+use Rattle.client.specs.declared.Client.{Client}
 use Rattle.client.specs.Message.{noPage}
 use Rattle.client.specs.Turn.{ends}
 use Rattle.client.specs.Way.{headFor, tailFor}
@@ -23,10 +23,10 @@ use Rattle.history.specs.Events.{Run}
 use Rattle.vouch.specs.Pages.{carried}
 use Rattle.vouch.proofs.GoodMap.{unit-within}
 use Rattle.vouch.proofs.Walks.{tail-last}
-use Rattle.client.specs.declared.message.Ask.{Ask}
-use Rattle.client.specs.declared.message.Response.{Response}
-use Rattle.client.specs.declared.state.Stage.{Stage}
-use Rattle.client.specs.declared.state.Stage.the-variants.{Fetching}
+use Rattle.client.specs.declared.Ask.{Ask}
+use Rattle.client.specs.declared.Response.{Response}
+use Rattle.client.specs.declared.Stage.{Stage}
+use Rattle.client.specs.declared.Stage.the-variants.{Fetching}
 use Rattle.client.specs.Client.{holding}
 use Rattle.client.specs.Take.{goesOn, holds, onFetched, answered}
 use Rattle.vouch.proofs.Meaning.{Means, WorkOk, Fetched, Walking, StageOk, Waits}

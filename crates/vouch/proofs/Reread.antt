@@ -15,16 +15,16 @@ use Rattle.layout.specs.Value.{layOf, goodValue, blank}
 use Rattle.layout.specs.Places.{setAt, tailOf}
 use Rattle.unit.specs.State.{Slot, State}
 use Rattle.unit.specs.Unit.{readSays, readShows}
-use Rattle.client.specs.declared.message.Ask.the-variants as ask
-use Rattle.client.specs.declared.message.Page.{Page}
-use Rattle.client.specs.declared.message.Query.{Query}
-use Rattle.client.specs.declared.message.Reply.the-variants.{Shown, Refused}
-use Rattle.client.specs.declared.message.Response.{Response}
-use Rattle.client.specs.declared.message.Stamp.{Stamp}
-use Rattle.client.specs.declared.state.Client.{Client}
-use Rattle.client.specs.declared.state.Work.the-variants.{Read}
-use Rattle.client.specs.declared.state.Stage.the-variants.{Reading}
-use Rattle.client.specs.declared.turn.Outcome.{Outcome}
+use Rattle.client.specs.declared.Ask.the-variants as ask
+use Rattle.client.specs.declared.Page.{Page}
+use Rattle.client.specs.declared.Query.{Query}
+use Rattle.client.specs.declared.Reply.the-variants.{Shown, Refused}
+use Rattle.client.specs.declared.Response.{Response}
+use Rattle.client.specs.declared.Stamp.{Stamp}
+use Rattle.client.specs.declared.Client.{Client}
+use Rattle.client.specs.declared.Work.the-variants.{Read}
+use Rattle.client.specs.declared.Stage.the-variants.{Reading}
+use Rattle.client.specs.declared.Outcome.{Outcome}
 use Rattle.client.specs.declared.turn.Turn.{Turn}
 use Rattle.client.specs.Message.{noPage, plain}
 use Rattle.client.specs.Client.{fresh, busy, jobOf, inStage, holding, lastNumber}

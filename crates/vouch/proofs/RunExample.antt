@@ -14,7 +14,7 @@ use Rattle.layout.specs.Holder.{fetchedFrom}
 use Rattle.unit.specs.State.{lookup, insert}
 use Rattle.unit.specs.Unit.{writeSays, written, writeUnit, readSays, readShows}
 use Rattle.sequencer.specs.Rules.{number, position, told, after as sequencer-after}
-use Rattle.client.specs.declared.state.Work.the-variants.{Append, Read, Fill}
+use Rattle.client.specs.declared.Work.the-variants.{Append, Read, Fill}
 use Rattle.client.specs.declared.state.Job.{Job}
 use Rattle.client.specs.Client.{idle, inStage, atPosition, holding, jobOf, appendOf}
 use Rattle.client.specs.Turn.{outcomeOf, over, ends, numbered, sends}

@@ -12,9 +12,9 @@ use Rattle.num.proofs.Tests.{cond-zero}
 use Rattle.layout.specs.declared.Layout.{Layout}
 use Rattle.sequencer.specs.declared.Asked.the-variants as asked
 use Rattle.sequencer.specs.Rules.{number, becomes, after}
-use Rattle.client.specs.declared.message.Stamp.{Stamp}
+use Rattle.client.specs.declared.Stamp.{Stamp}
 use Rattle.client.specs.declared.state.Job.{Job}
-use Rattle.client.specs.declared.state.Client.{Client}
+use Rattle.client.specs.declared.Client.{Client}
 use Rattle.client.specs.Client.{busy, idle, lastLife}
 use Rattle.client.specs.Turn.{rests, ends}
 use Rattle.client.specs.Begin.{giveUp, restartAnswer, restarted}

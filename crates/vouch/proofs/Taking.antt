@@ -9,21 +9,21 @@ use lib.Dec.{eqb, leb}
 use Rattle.num.specs.declared.Position.{Position}
 use Rattle.layout.specs.declared.Layout.{Layout}
 use Rattle.layout.specs.Value.{goodValue, blank}
-use Rattle.client.specs.declared.message.Page.{Page as PageValue}
-use Rattle.client.specs.declared.message.Ask.{Ask}
-use Rattle.client.specs.declared.message.Ask.the-variants as ask
-use Rattle.client.specs.declared.message.Query.{Query}
-use Rattle.client.specs.declared.message.Reply.{Reply}
-use Rattle.client.specs.declared.message.Reply.the-variants.{Shown, Refused}
-use Rattle.client.specs.declared.message.Response.{Response}
-use Rattle.client.specs.declared.state.Work.{Work}
-use Rattle.client.specs.declared.state.Work.the-variants as work
-use Rattle.client.specs.declared.state.Stage.{Stage}
-use Rattle.client.specs.declared.state.Stage.the-variants.{Fetching, Reading, Drawing, Writing, Filling, Looking, Trimming, Pruning, Sealing, Offering, Starting}
-use Rattle.client.specs.declared.state.Client.{Client}
-use Rattle.client.specs.declared.turn.Act.{Act}
-use Rattle.client.specs.declared.turn.Act.the-variants.{Rests, Sends, Ends}
-use Rattle.client.specs.declared.turn.Outcome.{Outcome}
+use Rattle.client.specs.declared.Page.{Page as PageValue}
+use Rattle.client.specs.declared.Ask.{Ask}
+use Rattle.client.specs.declared.Ask.the-variants as ask
+use Rattle.client.specs.declared.Query.{Query}
+use Rattle.client.specs.declared.Reply.{Reply}
+use Rattle.client.specs.declared.Reply.the-variants.{Shown, Refused}
+use Rattle.client.specs.declared.Response.{Response}
+use Rattle.client.specs.declared.Work.{Work}
+use Rattle.client.specs.declared.Work.the-variants as work
+use Rattle.client.specs.declared.Stage.{Stage}
+use Rattle.client.specs.declared.Stage.the-variants.{Fetching, Reading, Drawing, Writing, Filling, Looking, Trimming, Pruning, Sealing, Offering, Starting}
+use Rattle.client.specs.declared.Client.{Client}
+use Rattle.client.specs.declared.Act.{Act}
+use Rattle.client.specs.declared.Act.the-variants.{Rests, Sends, Ends}
+use Rattle.client.specs.declared.Outcome.{Outcome}
 use Rattle.client.specs.declared.turn.Turn.{Turn}
 use Rattle.client.specs.Message.{noPage, plain}
 use Rattle.client.specs.Client.{busy, lastNumber, inStage, holding}

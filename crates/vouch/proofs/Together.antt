@@ -6,11 +6,11 @@ use mathlib.Core.List.{List}
 use Prim.Native.Nat.{ℕ, _-_, _≤_, _<_}
 use lib.ListN.{length, getD, set}
 use Rattle.layout.specs.declared.Layout.{Layout}
-use Rattle.client.specs.declared.message.Page.{Page as PageValue}
-use Rattle.client.specs.declared.message.Ask.{Ask}
-use Rattle.client.specs.declared.message.Reply.{Reply}
-use Rattle.client.specs.declared.message.Stamp.{Stamp}
-use Rattle.client.specs.declared.state.Client.{Client}
+use Rattle.client.specs.declared.Page.{Page as PageValue}
+use Rattle.client.specs.declared.Ask.{Ask}
+use Rattle.client.specs.declared.Reply.{Reply}
+use Rattle.client.specs.declared.Stamp.{Stamp}
+use Rattle.client.specs.declared.Client.{Client}
 use Rattle.client.specs.Client.{busy, fresh}
 use Rattle.rule.specs.declared.Letter.{Letter}
 use Rattle.rule.specs.declared.Body.{Body}

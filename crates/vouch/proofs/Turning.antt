@@ -10,9 +10,9 @@ use lib.Seq.{set-getD}
 use Rattle.num.proofs.Tests.{false-true}
 use Rattle.num.specs.declared.Request.{Request}
 use Rattle.layout.specs.declared.Layout.{Layout}
-use Rattle.client.specs.declared.message.Stamp.{Stamp}
-use Rattle.client.specs.declared.message.Query.{Query}
-use Rattle.client.specs.declared.state.Client.{Client}
+use Rattle.client.specs.declared.Stamp.{Stamp}
+use Rattle.client.specs.declared.Query.{Query}
+use Rattle.client.specs.declared.Client.{Client}
 use Rattle.client.specs.declared.turn.Turn.{Turn}
 use Rattle.client.specs.Client.{fresh, idle}
 use Rattle.client.specs.Turn.{outcomeOf, rests, over, numbered, next, sent}

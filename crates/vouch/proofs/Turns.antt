@@ -8,14 +8,14 @@ use lib.Dec.{eqb, leb}
 use borrow.Author.Tests.{eqb-false}
 use Rattle.num.specs.declared.Position.{Position}
 use Rattle.num.specs.declared.Request.{Request}
-use Rattle.client.specs.declared.message.Page.{Page as PageValue}
-use Rattle.client.specs.declared.message.Query.{Query}
-use Rattle.client.specs.declared.state.Work.{Work}
-use Rattle.client.specs.declared.state.Work.the-variants as work
-use Rattle.client.specs.declared.state.Stage.{Stage}
-use Rattle.client.specs.declared.state.Stage.the-variants.{Idle, Fetching, Drawing, Writing, Reading, Filling, Looking, Trimming, Pruning, Sealing, Offering, Starting}
-use Rattle.client.specs.declared.state.Client.{Client}
-use Rattle.client.specs.declared.turn.Outcome.{Outcome}
+use Rattle.client.specs.declared.Page.{Page as PageValue}
+use Rattle.client.specs.declared.Query.{Query}
+use Rattle.client.specs.declared.Work.{Work}
+use Rattle.client.specs.declared.Work.the-variants as work
+use Rattle.client.specs.declared.Stage.{Stage}
+use Rattle.client.specs.declared.Stage.the-variants.{Idle, Fetching, Drawing, Writing, Reading, Filling, Looking, Trimming, Pruning, Sealing, Offering, Starting}
+use Rattle.client.specs.declared.Client.{Client}
+use Rattle.client.specs.declared.Outcome.{Outcome}
 use Rattle.client.specs.declared.turn.Turn.{Turn}
 use Rattle.client.specs.Message.{noPage}
 use Rattle.client.specs.Client.{busy, lastNumber}

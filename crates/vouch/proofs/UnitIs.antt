@@ -11,10 +11,10 @@ use Rattle.unit.specs.Shape.{small}
 use Rattle.unit.specs.State.{Slot, State}
 use Rattle.unit.specs.Memory.{valid}
 use Rattle.unit.proofs.Shown.{shown}
-use Rattle.client.specs.declared.message.Page.{Page as PageValue}
-use Rattle.client.specs.declared.message.Reply.{Reply}
-use Rattle.client.specs.declared.message.Reply.the-variants.{Fine, Shown, Edge, Refused}
-use Rattle.client.specs.declared.message.Response.{Response}
+use Rattle.client.specs.declared.Page.{Page as PageValue}
+use Rattle.client.specs.declared.Reply.{Reply}
+use Rattle.client.specs.declared.Reply.the-variants.{Fine, Shown, Edge, Refused}
+use Rattle.client.specs.declared.Response.{Response}
 use Rattle.rule.specs.Serve.{bare}
 use Rattle.history.specs.Words.{UnitNo, Pos, Epoch, Page, Answer, Before}
 use Rattle.history.specs.Words.Answer.{shows, trimmed, unwritten}

@@ -13,12 +13,12 @@ use Rattle.layout.specs.Value.{layOf, padded}
 use Rattle.layout.specs.Places.{setAt, tailOf}
 use Rattle.layout.specs.Plan.{planned}
 use Rattle.unit.specs.Unit.{readSays, readShows}
-use Rattle.client.specs.declared.message.Page.{Page as PageValue}
-use Rattle.client.specs.declared.state.Work.the-variants.{Append, Read}
-use Rattle.client.specs.declared.state.Stage.the-variants.{Idle}
-use Rattle.client.specs.declared.state.Change.{Change}
+use Rattle.client.specs.declared.Page.{Page as PageValue}
+use Rattle.client.specs.declared.Work.the-variants.{Append, Read}
+use Rattle.client.specs.declared.Stage.the-variants.{Idle}
+use Rattle.client.specs.declared.Change.{Change}
 use Rattle.client.specs.declared.state.Job.{Job}
-use Rattle.client.specs.declared.turn.Outcome.{Outcome}
+use Rattle.client.specs.declared.Outcome.{Outcome}
 use Rattle.client.specs.Message.{noPage}
 use Rattle.client.specs.Client.{noChange, jobOf, reorganiseOf, dropLimit, lastNumber}
 use Rattle.rule.specs.declared.Step.the-variants.{Begin, Deliver}

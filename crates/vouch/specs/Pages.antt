@@ -4,7 +4,7 @@ use Prim.Native.Nat.{ℕ}
 use mathlib.Core.Bool.{cond}
 use mathlib.Core.List.{List}
 use lib.Dec.{eqb}
-use Rattle.client.specs.declared.message.Page.{Page as PageValue}
+use Rattle.client.specs.declared.Page.{Page as PageValue}
 use Rattle.rule.specs.Serve.{kindOf, bytesOf}
 use Rattle.history.specs.Words.{Page}
 use Rattle.history.specs.Words.Page.{junk, bytes}

@@ -7,11 +7,11 @@ use Rattle.client.specs.Job.{dataPage}
 use Rattle.num.specs.declared.Epoch as num-epoch
 use Rattle.num.specs.declared.Position.{Position}
 use Rattle.layout.specs.declared.Layout.{Layout}
-use Rattle.client.specs.declared.message.Ask.the-variants as ask
-use Rattle.client.specs.declared.state.Work.{Work}
-use Rattle.client.specs.declared.state.Work.the-variants.{Append, Read, Fill, Trim, Prune}
+use Rattle.client.specs.declared.Ask.the-variants as ask
+use Rattle.client.specs.declared.Work.{Work}
+use Rattle.client.specs.declared.Work.the-variants.{Append, Read, Fill, Trim, Prune}
 use Rattle.client.specs.declared.state.Job.{Job}
-use Rattle.client.specs.declared.turn.Outcome.{Outcome}
+use Rattle.client.specs.declared.Outcome.{Outcome}
 use Rattle.client.specs.Client.{busy}
 use Rattle.rule.specs.declared.Letter.{Letter}
 use Rattle.rule.specs.declared.Body.the-variants.{Asks}

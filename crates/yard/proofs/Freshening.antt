@@ -22,8 +22,8 @@ use Rattle.unit.proofs.Holding.{small-room, encode-holds}
 use Rattle.sequencer.specs.declared.Sequencer.{Sequencer}
 use Rattle.sequencer.specs.Rules as sequencer
 use Rattle.rule.specs.Lent.{unitsBytes}
-use Rattle.rule.specs.Fresh.{freshUnits, freshNumber, freshYard, freshLent, makes}
-use Rattle.yard.specs.Prepared.{freshNumberOf, IsPrepared}
+use Rattle.rule.specs.Fresh.{freshUnits, freshNumberOf, freshNumber, freshYard, freshLent, makes}
+use Rattle.yard.specs.Prepared.{IsPrepared}
 use Rattle.yard.proofs.Blanks.{blanked-first, blanked-whole}
 
 -- ---- the memories

@@ -17,9 +17,9 @@ use Rattle.unit.specs.State.{State}
 use Rattle.unit.specs.Memory.{good, numberOf, decode, encode}
 use Rattle.unit.proofs.Goodness.{is-good}
 use Rattle.unit.proofs.Encoding.{encode-decode}
-use Rattle.client.specs.declared.message.Page.{Page}
-use Rattle.client.specs.declared.message.Ask.{Ask}
-use Rattle.client.specs.declared.message.Response.{Response}
+use Rattle.client.specs.declared.Page.{Page}
+use Rattle.client.specs.declared.Ask.{Ask}
+use Rattle.client.specs.declared.Response.{Response}
 use Rattle.unit.specs.Unit.{freshUnit}
 use Rattle.rule.specs.Lent.{goodUnits, unitsIn, unitsBytes}
 use Rattle.yard.specs.Parts.{unitOf, unitSays, unitAfter, OnUnit, AtUnit}

@@ -12,10 +12,10 @@ use Rattle.layout.specs.declared.Layout.{Layout}
 use Rattle.unit.specs.State.{State}
 use Rattle.unit.specs.Unit.{freshUnit}
 use Rattle.sequencer.specs.declared.Sequencer.{Sequencer}
-use Rattle.client.specs.declared.message.Page.{Page}
-use Rattle.client.specs.declared.message.Ask.{Ask}
-use Rattle.client.specs.declared.message.Ask.the-variants.{Write, Read, Trim, Prune, Seal}
-use Rattle.client.specs.declared.message.Response.{Response}
+use Rattle.client.specs.declared.Page.{Page}
+use Rattle.client.specs.declared.Ask.{Ask}
+use Rattle.client.specs.declared.Ask.the-variants.{Write, Read, Trim, Prune, Seal}
+use Rattle.client.specs.declared.Response.{Response}
 use Rattle.rule.specs.declared.Letter.{Letter}
 use Rattle.rule.specs.declared.Yard.{Yard}
 use Rattle.yard.specs.declared.machine.Service.{Service}

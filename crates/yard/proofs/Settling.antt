@@ -12,7 +12,7 @@ use lib.Seq.{length-take-le, getD-take}
 use Rattle.num.proofs.Tests.{and-false, or-false, cond-zero}
 use Rattle.layout.specs.Value.{goodValue}
 use Rattle.sequencer.specs.declared.Sequencer.{Sequencer}
-use Rattle.client.specs.declared.state.Client.{Client}
+use Rattle.client.specs.declared.Client.{Client}
 use Rattle.client.specs.declared.state.Job.{Job}
 use Rattle.rule.specs.declared.Letter.{Letter}
 use Rattle.rule.specs.declared.Yard.{Yard}
@@ -21,10 +21,10 @@ use Rattle.yard.specs.declared.moves.Moves.{Moves}
 use Rattle.rule.specs.World.{blankLetter}
 use Rattle.yard.specs.Bag.{takeAt}
 use Rattle.rule.specs.Steps.{Done, step, keeping}
-use Rattle.rule.specs.Lent.{Lent, fetched, goodClients, goodUnits, lentNumber, seen, left, done, unlent, steps}
+use Rattle.rule.specs.Lent.{Lent, fetched, goodClients, goodUnits, testNumber, lentNumber, seen, left, done, unlent, steps}
 use Rattle.yard.specs.Parts.{worldOf}
 use Rattle.yard.specs.Moves.{posting, countAfter, refusing, Decided}
-use Rattle.yard.specs.Settled.{testNumber, placeOf, settling, Settles, Decides}
+use Rattle.yard.specs.Settled.{placeOf, settling, Settles, Decides}
 use Rattle.yard.proofs.Delivering.{after-length}
 use Rattle.yard.proofs.Laying.{set-past, laid-is}
 

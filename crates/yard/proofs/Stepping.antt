@@ -13,11 +13,11 @@ use Rattle.unit.specs.State.{State}
 use Rattle.sequencer.specs.declared.Sequencer.{Sequencer}
 use Rattle.sequencer.specs.declared.Asked.the-variants as asked
 use Rattle.sequencer.specs.Rules.{after}
-use Rattle.client.specs.declared.message.Query.{Query}
-use Rattle.client.specs.declared.state.Client.{Client}
+use Rattle.client.specs.declared.Query.{Query}
+use Rattle.client.specs.declared.Client.{Client}
 use Rattle.client.specs.declared.state.Job.{Job}
-use Rattle.client.specs.declared.turn.Act.{Act}
-use Rattle.client.specs.declared.turn.Act.the-variants.{Rests, Sends, Ends}
+use Rattle.client.specs.declared.Act.{Act}
+use Rattle.client.specs.declared.Act.the-variants.{Rests, Sends, Ends}
 use Rattle.client.specs.declared.turn.Turn.{Turn}
 use Rattle.client.specs.Client.{fresh, lastNumber, busy}
 use Rattle.client.specs.Turn.{rests, over, ends}

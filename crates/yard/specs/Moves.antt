@@ -7,11 +7,11 @@ use lib.ListN.{length, getD, set}
 use Rattle.layout.specs.declared.Layout.{Layout}
 use Rattle.unit.specs.State.{State}
 use Rattle.sequencer.specs.declared.Sequencer.{Sequencer}
-use Rattle.client.specs.declared.message.Query.{Query}
-use Rattle.client.specs.declared.message.Stamp.{Stamp}
-use Rattle.client.specs.declared.state.Client.{Client}
-use Rattle.client.specs.declared.turn.Act.{Act}
-use Rattle.client.specs.declared.turn.Act.the-variants.{Rests, Sends, Ends}
+use Rattle.client.specs.declared.Query.{Query}
+use Rattle.client.specs.declared.Stamp.{Stamp}
+use Rattle.client.specs.declared.Client.{Client}
+use Rattle.client.specs.declared.Act.{Act}
+use Rattle.client.specs.declared.Act.the-variants.{Rests, Sends, Ends}
 use Rattle.client.specs.declared.turn.Turn.{Turn}
 use Rattle.client.specs.Turn.{noOutcome}
 use Rattle.rule.specs.declared.Letter.{Letter}

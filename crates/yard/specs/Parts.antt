@@ -7,10 +7,10 @@ use Rattle.unit.specs.Shape.{small}
 use Rattle.unit.specs.State.{State}
 use Rattle.unit.specs.Memory.{encode}
 use Rattle.unit.specs.Unit.{freshUnit, writeSays, writeUnit, trimSays, trimUnit, pruneSays, pruneUnit, sealUnit}
-use Rattle.client.specs.declared.message.Page.{Page}
-use Rattle.client.specs.declared.message.Ask.{Ask}
-use Rattle.client.specs.declared.message.Ask.the-variants.{Fetch, Token, Write, Read, Trim, Prune, Seal, Offer, Start}
-use Rattle.client.specs.declared.message.Response.{Response}
+use Rattle.client.specs.declared.Page.{Page}
+use Rattle.client.specs.declared.Ask.{Ask}
+use Rattle.client.specs.declared.Ask.the-variants.{Fetch, Token, Write, Read, Trim, Prune, Seal, Offer, Start}
+use Rattle.client.specs.declared.Response.{Response}
 use Rattle.client.specs.Message.{noResponse}
 use Rattle.sequencer.specs.declared.Sequencer.{Sequencer}
 use Rattle.rule.specs.declared.Letter.{Letter}

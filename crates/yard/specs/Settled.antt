@@ -1,12 +1,9 @@
 -- Names for what is promised of a whole decision: what a step gives back, and what it does to the table.
 use Prim.Native.Nat.{ℕ, _-_}
-use mathlib.Core.Bool.{_&&_, _||_, not, cond}
-use mathlib.Core.List.{List, [], _∷_}
+use mathlib.Core.Bool.{cond}
+use mathlib.Core.List.{List}
 use mathlib.Core.Path.{_≡_}
-use lib.Dec.{eqb, ltb}
 use lib.ListN.{length}
-use Rattle.num.specs.Checks.{lowest, _if_}
-use Rattle.layout.specs.Value.{goodValue}
 use Rattle.sequencer.specs.declared.Sequencer.{Sequencer}
 use Rattle.client.specs.declared.state.Job.{Job}
 use Rattle.rule.specs.declared.Letter.{Letter}
@@ -16,19 +13,8 @@ use Rattle.rule.specs.declared.Step.the-variants.{Begin, Deliver, Drop, Stop, R
 use Rattle.yard.specs.declared.moves.Moves.{Moves}
 use Rattle.yard.specs.declared.decide.Settled.{Settled}
 use Rattle.yard.specs.Bag.{takeAt, putAt, dropAt}
-use Rattle.rule.specs.World.{unitLimit, letterLimit}
-use Rattle.rule.specs.Lent.{Lent, lentOf, goodUnits, goodClients, steps}
+use Rattle.rule.specs.Lent.{Lent, lentOf, steps}
 use Rattle.yard.specs.Moves.{countAfter}
-
--- the number of what is lent, by the number of the table's places
-unfoldable pub testNumber : Yard → ℕ → List ℕ → ℕ
-testNumber y places m =
-    lowest (
-    1 if not (goodUnits 1 unitLimit m)
-    ∷ 10 if not (goodValue (y .held) && goodClients (y .clients))
-    ∷ 16 if (not (eqb places letterLimit) || ltb letterLimit (y .count))
-    ∷ []
-    )
 
 -- the place of the letter that a step is about, 0 where it is about none
 abbrev pub placeOf : Step → ℕ

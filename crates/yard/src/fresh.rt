@@ -2,10 +2,10 @@
 ghost use mathlib.Core.Path.{_≡_};
 ghost use lib.ListN.{length};
 ghost use Rattle.rule.specs.Lent.{unitsBytes};
-ghost use Rattle.rule.specs.Fresh.{freshUnits, freshYard, IsMade};
-ghost use Rattle.yard.specs.Prepared.{freshNumberOf, IsPrepared};
+ghost use Rattle.rule.specs.Fresh.{freshUnits, freshYard, freshNumberOf, IsMade};
+ghost use Rattle.yard.specs.Prepared.{IsPrepared};
 use crate::bag::clear;
-use client::state::Client;
+use client::Client;
 use layout::Layout;
 use layout::good::is_good;
 use num::answer::Answer;

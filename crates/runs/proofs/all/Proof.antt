@@ -7,16 +7,19 @@ use Rattle.runs.proofs.all.Statement.{statement}
 use Rattle.runs.proofs.all.Tie as tie
 
 abbrev Inv-loop : tie.InvT-loop
-Inv-loop units₀ line₀ input at₀ t7 units line at = (length units ≡ length units₀) × (length line ≡ length line₀)
+Inv-loop units₀ input at₀ t5 units at = length units ≡ length units₀
 
 abbrev μ-loop : tie.MeasureT-loop
-μ-loop units₀ line₀ input at₀ t7 units line at = length input - at
+μ-loop units₀ input at₀ t5 units at = length input - at
 
 loop-holds : tie.Need-loop-holds Inv-loop μ-loop
 loop-holds c = search needs
 
 line-at-requires : tie.Need-line-at-requires Inv-loop μ-loop
 line-at-requires c κs = search needs
+
+blank-requires : tie.Need-blank-requires Inv-loop μ-loop
+blank-requires c κs = tt
 
 slice-aggregate-text : tie.Need-slice-aggregate-text Inv-loop μ-loop
 slice-aggregate-text c = search needs
@@ -30,20 +33,14 @@ say-requires c κs = tt
 same-length : tie.Need-same-length Inv-loop μ-loop
 same-length c = search needs
 
-same-length-2 : tie.Need-same-length-2 Inv-loop μ-loop
-same-length-2 c = search needs
-
 returns : tie.Need-returns Inv-loop μ-loop
 returns c = tt
 
 run-of-requires : tie.Need-run-of-requires Inv-loop μ-loop
 run-of-requires c κs = tt
 
-same-length-3 : tie.Need-same-length-3 Inv-loop μ-loop
-same-length-3 c = search needs
-
-same-length-4 : tie.Need-same-length-4 Inv-loop μ-loop
-same-length-4 c = search needs
+same-length-2 : tie.Need-same-length-2 Inv-loop μ-loop
+same-length-2 c = search needs
 
 returns-2 : tie.Need-returns-2 Inv-loop μ-loop
 returns-2 c = tt
@@ -54,11 +51,8 @@ loop-less c = search needs
 loop-again : tie.Need-loop-again Inv-loop μ-loop
 loop-again c = search needs
 
-same-length-5 : tie.Need-same-length-5 Inv-loop μ-loop
-same-length-5 c = search needs
-
-same-length-6 : tie.Need-same-length-6 Inv-loop μ-loop
-same-length-6 c = search needs
+same-length-3 : tie.Need-same-length-3 Inv-loop μ-loop
+same-length-3 c = search needs
 
 returns-3 : tie.Need-returns-3 Inv-loop μ-loop
 returns-3 c = tt
@@ -71,18 +65,16 @@ all-spec =
     μ-loop
     loop-holds
     line-at-requires
+    blank-requires
     slice-aggregate-text
     text-requires
     say-requires
     same-length
-    same-length-2
     returns
     run-of-requires
-    same-length-3
-    same-length-4
+    same-length-2
     returns-2
     loop-less
     loop-again
-    same-length-5
-    same-length-6
+    same-length-3
     returns-3)

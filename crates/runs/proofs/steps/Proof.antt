@@ -1,46 +1,59 @@
 -- `runs::steps` is safe and ends: it counts up to the number of steps.
 use Prim.Native.Nat.{_-_, _≤_}
-use mathlib.Core.Path.{_≡_}
+use mathlib.Core.Path.{_≡_, _∙_}
+use native.Mathlib.Omega.{arith}
 use borrow.Author.Needs.{needs}
 use lib.ListN.{length}
 use Rattle.runs.proofs.steps.Statement.{statement}
 use Rattle.runs.proofs.steps.Tie as tie
 
 abbrev Inv-loop : tie.InvT-loop
-Inv-loop units₀ line₀ count run₀ n₀ units line run n = (n ≤ count) × (length units ≡ length units₀) × (length line ≡ length line₀)
+Inv-loop units₀ kept₀ run₀ count n₀ units kept run n = (n ≤ count) × (length units ≡ length units₀)
 
 abbrev μ-loop : tie.MeasureT-loop
-μ-loop units₀ line₀ count run₀ n₀ units line run n = count - n
+μ-loop units₀ kept₀ run₀ count n₀ units kept run n = count - n
 
 loop-holds : tie.Need-loop-holds Inv-loop μ-loop
 loop-holds c = search needs
 
-same-length : tie.Need-same-length Inv-loop μ-loop
-same-length c = search needs
+add-n : tie.Need-add-n Inv-loop μ-loop
+add-n c = search needs
 
-same-length-2 : tie.Need-same-length-2 Inv-loop μ-loop
-same-length-2 c = search needs
+draw-requires : tie.Need-draw-requires Inv-loop μ-loop
+draw-requires c κs = tt
+
+look-requires : tie.Need-look-requires Inv-loop μ-loop
+look-requires c κs = tt
+
+choose-requires : tie.Need-choose-requires Inv-loop μ-loop
+choose-requires c κs = tt
+
+step-kept-requires : tie.Need-step-kept-requires Inv-loop μ-loop
+step-kept-requires c κs = tt
+
+told-requires : tie.Need-told-requires Inv-loop μ-loop
+told-requires c κs = tt
+
+after-requires : tie.Need-after-requires Inv-loop μ-loop
+after-requires c κs = tt
+
+same-length : tie.Need-same-length Inv-loop μ-loop
+same-length c = let before-step = c .before .before .before .before .before .before in let at-loop = before-step .before .before .before .before .before .before .before .before .before .before in before-step .step-kept .kept .1 .0 ∙ at-loop .loop .inv .1
 
 returns : tie.Need-returns Inv-loop μ-loop
 returns c = tt
 
-add-n : tie.Need-add-n Inv-loop μ-loop
-add-n c = search needs
-
-turn-requires : tie.Need-turn-requires Inv-loop μ-loop
-turn-requires c κs = tt
-
 loop-less : tie.Need-loop-less Inv-loop μ-loop
-loop-less c = search needs
+loop-less c = omega (arith, c .before .before .before .before .before .before .before .before .before .before .before .before .before .before .before .loop-test .taken)
 
 loop-again : tie.Need-loop-again Inv-loop μ-loop
-loop-again c = search needs
+loop-again c = let before-step = c .before .before .before .before .before .before in let at-loop = before-step .before .before .before .before .before .before .before .before .before .before in (omega (arith, c .before .before .before .before .before .before .before .before .before .before .before .before .before .before .before .loop-test .taken), before-step .step-kept .kept .1 .0 ∙ at-loop .loop .inv .1)
 
-same-length-3 : tie.Need-same-length-3 Inv-loop μ-loop
-same-length-3 c = search needs
+ends-requires : tie.Need-ends-requires Inv-loop μ-loop
+ends-requires c κs = tt
 
-same-length-4 : tie.Need-same-length-4 Inv-loop μ-loop
-same-length-4 c = search needs
+same-length-2 : tie.Need-same-length-2 Inv-loop μ-loop
+same-length-2 c = search needs
 
 returns-2 : tie.Need-returns-2 Inv-loop μ-loop
 returns-2 c = tt
@@ -52,13 +65,17 @@ steps-spec =
     Inv-loop
     μ-loop
     loop-holds
-    same-length
-    same-length-2
-    returns
     add-n
-    turn-requires
+    draw-requires
+    look-requires
+    choose-requires
+    step-kept-requires
+    told-requires
+    after-requires
+    same-length
+    returns
     loop-less
     loop-again
-    same-length-3
-    same-length-4
+    ends-requires
+    same-length-2
     returns-2)

@@ -7,19 +7,37 @@ use Rattle.runs.proofs.age.seal_all.Statement.{statement}
 use Rattle.runs.proofs.age.seal_all.Tie as tie
 
 abbrev Inv-loop : tie.InvT-loop
-Inv-loop units₀ i₀ units i = (i ≤ 8) × (length units ≡ length units₀)
+Inv-loop units₀ are-old i₀ units i = (i ≤ 8) × (49344 ≤ length units) × (length units ≡ length units₀)
 
 abbrev μ-loop : tie.MeasureT-loop
-μ-loop units₀ i₀ units i = 8 - i
+μ-loop units₀ are-old i₀ units i = 8 - i
+
+returns : tie.Need-returns Inv-loop μ-loop
+returns c = tt
+
+returns-2 : tie.Need-returns-2 Inv-loop μ-loop
+returns-2 c = tt
 
 loop-holds : tie.Need-loop-holds Inv-loop μ-loop
 loop-holds c = search needs
 
-mul-seal-at : tie.Need-mul-seal-at Inv-loop μ-loop
-mul-seal-at c = search needs
+mul-start : tie.Need-mul-start Inv-loop μ-loop
+mul-start c = search needs
 
-seal-at-requires : tie.Need-seal-at-requires Inv-loop μ-loop
-seal-at-requires c κs = tt
+add-end : tie.Need-add-end Inv-loop μ-loop
+add-end c = search needs
+
+sub-seal : tie.Need-sub-seal Inv-loop μ-loop
+sub-seal c = search needs
+
+part-seal-start : tie.Need-part-seal-start Inv-loop μ-loop
+part-seal-start c = search needs
+
+part-seal-end : tie.Need-part-seal-end Inv-loop μ-loop
+part-seal-end c = search needs
+
+seal-requires : tie.Need-seal-requires Inv-loop μ-loop
+seal-requires c κs = tt
 
 add-i : tie.Need-add-i Inv-loop μ-loop
 add-i c = search needs
@@ -33,8 +51,8 @@ loop-again c = search needs
 same-length : tie.Need-same-length Inv-loop μ-loop
 same-length c = search needs
 
-returns : tie.Need-returns Inv-loop μ-loop
-returns c = tt
+returns-3 : tie.Need-returns-3 Inv-loop μ-loop
+returns-3 c = tt
 
 pub seal-all-spec : {M : Type 1} → statement M
 seal-all-spec =
@@ -42,11 +60,17 @@ seal-all-spec =
     (tie.spec
     Inv-loop
     μ-loop
+    returns
+    returns-2
     loop-holds
-    mul-seal-at
-    seal-at-requires
+    mul-start
+    add-end
+    sub-seal
+    part-seal-start
+    part-seal-end
+    seal-requires
     add-i
     loop-less
     loop-again
     same-length
-    returns)
+    returns-3)

@@ -5,13 +5,10 @@ use Rattle.runs.proofs.change.any_units.Statement.{statement}
 use Rattle.runs.proofs.change.any_units.Tie as tie
 
 abbrev Inv-loop : tie.InvT-loop
-Inv-loop raw count n units₀ i₀ units i = (i ≤ n) × (n ≤ 8)
+Inv-loop raw k count low span n units₀ i₀ units i = (i ≤ n) × (n ≤ 8)
 
 abbrev μ-loop : tie.MeasureT-loop
-μ-loop raw count n units₀ i₀ units i = n - i
-
-of-requires : tie.Need-of-requires Inv-loop μ-loop
-of-requires c κs = search needs
+μ-loop raw k count low span n units₀ i₀ units i = n - i
 
 loop-holds : tie.Need-loop-holds Inv-loop μ-loop
 loop-holds c = search needs
@@ -19,8 +16,11 @@ loop-holds c = search needs
 add-of : tie.Need-add-of Inv-loop μ-loop
 add-of c = search needs
 
-of-requires-2 : tie.Need-of-requires-2 Inv-loop μ-loop
-of-requires-2 c κs = search needs
+of-requires : tie.Need-of-requires Inv-loop μ-loop
+of-requires c κs = search needs
+
+add-units : tie.Need-add-units Inv-loop μ-loop
+add-units c = search needs
 
 cast-units : tie.Need-cast-units Inv-loop μ-loop
 cast-units c = search needs
@@ -37,8 +37,8 @@ loop-less c = search needs
 loop-again : tie.Need-loop-again Inv-loop μ-loop
 loop-again c = search needs
 
-cast-t12 : tie.Need-cast-t12 Inv-loop μ-loop
-cast-t12 c = search needs
+cast-t16 : tie.Need-cast-t16 Inv-loop μ-loop
+cast-t16 c = search needs
 
 returns : tie.Need-returns Inv-loop μ-loop
 returns c = tt
@@ -49,14 +49,14 @@ any-units-spec =
     (tie.spec
     Inv-loop
     μ-loop
-    of-requires
     loop-holds
     add-of
-    of-requires-2
+    of-requires
+    add-units
     cast-units
     array-write-units
     add-i
     loop-less
     loop-again
-    cast-t12
+    cast-t16
     returns)

@@ -13,8 +13,8 @@ abbrev μ-loop : tie.MeasureT-loop
 loop-holds : tie.Need-loop-holds Inv-loop μ-loop
 loop-holds c = search needs
 
-advance-requires : tie.Need-advance-requires Inv-loop μ-loop
-advance-requires c κs = tt
+mul-y : tie.Need-mul-y Inv-loop μ-loop
+mul-y c = search needs
 
 mul-raw : tie.Need-mul-raw Inv-loop μ-loop
 mul-raw c = search needs
@@ -41,7 +41,7 @@ draw-spec =
     Inv-loop
     μ-loop
     loop-holds
-    advance-requires
+    mul-y
     mul-raw
     array-write-raw
     add-k

@@ -1,16 +1,14 @@
 -- `runs::print::ranges` is safe and ends: it counts up to 8 at most.
 use Prim.Native.Nat.{_-_, _≤_}
-use mathlib.Core.Path.{_≡_}
 use borrow.Author.Needs.{needs}
-use lib.ListN.{length}
 use Rattle.runs.proofs.print.ranges.Statement.{statement}
 use Rattle.runs.proofs.print.ranges.Tie as tie
 
 abbrev Inv-loop : tie.InvT-loop
-Inv-loop line₀ at count all n place₀ i₀ line place i = (i ≤ n) × (n ≤ 8) × (length line ≡ length line₀)
+Inv-loop count all n line₀ i₀ line i = (i ≤ n) × (n ≤ 8)
 
 abbrev μ-loop : tie.MeasureT-loop
-μ-loop line₀ at count all n place₀ i₀ line place i = n - i
+μ-loop count all n line₀ i₀ line i = n - i
 
 size-requires : tie.Need-size-requires Inv-loop μ-loop
 size-requires c κs = tt
@@ -27,8 +25,17 @@ mul-r c = search needs
 array-copy-out-r : tie.Need-array-copy-out-r Inv-loop μ-loop
 array-copy-out-r c = search needs
 
-range-requires : tie.Need-range-requires Inv-loop μ-loop
-range-requires c κs = tt
+word-requires : tie.Need-word-requires Inv-loop μ-loop
+word-requires c κs = tt
+
+sign-requires : tie.Need-sign-requires Inv-loop μ-loop
+sign-requires c κs = tt
+
+cast-number : tie.Need-cast-number Inv-loop μ-loop
+cast-number c = search needs
+
+number-requires : tie.Need-number-requires Inv-loop μ-loop
+number-requires c κs = tt
 
 add-i : tie.Need-add-i Inv-loop μ-loop
 add-i c = search needs
@@ -38,9 +45,6 @@ loop-less c = search needs
 
 loop-again : tie.Need-loop-again Inv-loop μ-loop
 loop-again c = search needs
-
-same-length : tie.Need-same-length Inv-loop μ-loop
-same-length c = search needs
 
 returns : tie.Need-returns Inv-loop μ-loop
 returns c = tt
@@ -56,9 +60,11 @@ ranges-spec =
     loop-holds
     mul-r
     array-copy-out-r
-    range-requires
+    word-requires
+    sign-requires
+    cast-number
+    number-requires
     add-i
     loop-less
     loop-again
-    same-length
     returns)

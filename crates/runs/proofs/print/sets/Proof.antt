@@ -1,16 +1,14 @@
 -- `runs::print::sets` is safe and ends: it counts up to 16 at most.
 use Prim.Native.Nat.{_-_, _≤_}
-use mathlib.Core.Path.{_≡_}
 use borrow.Author.Needs.{needs}
-use lib.ListN.{length}
 use Rattle.runs.proofs.print.sets.Statement.{statement}
 use Rattle.runs.proofs.print.sets.Tie as tie
 
 abbrev Inv-loop : tie.InvT-loop
-Inv-loop line₀ at count chains n place₀ i₀ line place i = (i ≤ n) × (n ≤ 16) × (length line ≡ length line₀)
+Inv-loop count chains n line₀ i₀ line i = (i ≤ n) × (n ≤ 16)
 
 abbrev μ-loop : tie.MeasureT-loop
-μ-loop line₀ at count chains n place₀ i₀ line place i = n - i
+μ-loop count chains n line₀ i₀ line i = n - i
 
 size-requires : tie.Need-size-requires Inv-loop μ-loop
 size-requires c κs = tt
@@ -39,9 +37,6 @@ loop-less c = search needs
 loop-again : tie.Need-loop-again Inv-loop μ-loop
 loop-again c = search needs
 
-same-length : tie.Need-same-length Inv-loop μ-loop
-same-length c = search needs
-
 returns : tie.Need-returns Inv-loop μ-loop
 returns c = tt
 
@@ -60,5 +55,4 @@ sets-spec =
     add-i
     loop-less
     loop-again
-    same-length
     returns)

@@ -1,25 +1,14 @@
--- `runs::text::hex` is safe and ends: it counts up to the length of what is said.
+-- `runs::text::hex` is safe and ends: it counts up to 32 at most.
 use Prim.Native.Nat.{_-_, _≤_}
-use mathlib.Core.Path.{_≡_}
 use borrow.Author.Needs.{needs}
-use lib.ListN.{length}
 use Rattle.runs.proofs.text.hex.Statement.{statement}
 use Rattle.runs.proofs.text.hex.Tie as tie
 
 abbrev Inv-loop : tie.InvT-loop
-Inv-loop line₀ at bytes count n place₀ i₀ line place i = (i ≤ n) × (n ≤ length bytes) × (length line ≡ length line₀)
+Inv-loop count bytes n line₀ i₀ line i = (i ≤ n) × (n ≤ 32)
 
 abbrev μ-loop : tie.MeasureT-loop
-μ-loop line₀ at bytes count n place₀ i₀ line place i = n - i
-
-sign-requires : tie.Need-sign-requires Inv-loop μ-loop
-sign-requires c κs = tt
-
-same-length : tie.Need-same-length Inv-loop μ-loop
-same-length c = search needs
-
-returns : tie.Need-returns Inv-loop μ-loop
-returns c = tt
+μ-loop count bytes n line₀ i₀ line i = n - i
 
 size-requires : tie.Need-size-requires Inv-loop μ-loop
 size-requires c κs = tt
@@ -27,11 +16,17 @@ size-requires c κs = tt
 smaller-requires : tie.Need-smaller-requires Inv-loop μ-loop
 smaller-requires c κs = tt
 
+sign-requires : tie.Need-sign-requires Inv-loop μ-loop
+sign-requires c κs = tt
+
+sign-if-requires : tie.Need-sign-if-requires Inv-loop μ-loop
+sign-if-requires c κs = tt
+
 loop-holds : tie.Need-loop-holds Inv-loop μ-loop
 loop-holds c = search needs
 
-shared-slice-read-digit : tie.Need-shared-slice-read-digit Inv-loop μ-loop
-shared-slice-read-digit c = search needs
+array-read-digit : tie.Need-array-read-digit Inv-loop μ-loop
+array-read-digit c = search needs
 
 digit-requires : tie.Need-digit-requires Inv-loop μ-loop
 digit-requires c κs = tt
@@ -39,8 +34,8 @@ digit-requires c κs = tt
 sign-requires-2 : tie.Need-sign-requires-2 Inv-loop μ-loop
 sign-requires-2 c κs = tt
 
-shared-slice-read-digit-2 : tie.Need-shared-slice-read-digit-2 Inv-loop μ-loop
-shared-slice-read-digit-2 c = search needs
+array-read-digit-2 : tie.Need-array-read-digit-2 Inv-loop μ-loop
+array-read-digit-2 c = search needs
 
 digit-requires-2 : tie.Need-digit-requires-2 Inv-loop μ-loop
 digit-requires-2 c κs = tt
@@ -57,11 +52,8 @@ loop-less c = search needs
 loop-again : tie.Need-loop-again Inv-loop μ-loop
 loop-again c = search needs
 
-same-length-2 : tie.Need-same-length-2 Inv-loop μ-loop
-same-length-2 c = search needs
-
-returns-2 : tie.Need-returns-2 Inv-loop μ-loop
-returns-2 c = tt
+returns : tie.Need-returns Inv-loop μ-loop
+returns c = tt
 
 pub hex-spec : {M : Type 1} → statement M
 hex-spec =
@@ -69,20 +61,18 @@ hex-spec =
     (tie.spec
     Inv-loop
     μ-loop
-    sign-requires
-    same-length
-    returns
     size-requires
     smaller-requires
+    sign-requires
+    sign-if-requires
     loop-holds
-    shared-slice-read-digit
+    array-read-digit
     digit-requires
     sign-requires-2
-    shared-slice-read-digit-2
+    array-read-digit-2
     digit-requires-2
     sign-requires-3
     add-i
     loop-less
     loop-again
-    same-length-2
-    returns-2)
+    returns)

@@ -1,25 +1,15 @@
 -- `runs::text::list` is safe and ends: it counts up to the length of what is said.
 use Prim.Native.Nat.{_-_, _≤_}
-use mathlib.Core.Path.{_≡_}
 use borrow.Author.Needs.{needs}
 use lib.ListN.{length}
 use Rattle.runs.proofs.text.list.Statement.{statement}
 use Rattle.runs.proofs.text.list.Tie as tie
 
 abbrev Inv-loop : tie.InvT-loop
-Inv-loop line₀ at numbers count n place₀ i₀ line place i = (i ≤ n) × (n ≤ length numbers) × (length line ≡ length line₀)
+Inv-loop numbers count n line₀ i₀ line i = (i ≤ n) × (n ≤ length numbers)
 
 abbrev μ-loop : tie.MeasureT-loop
-μ-loop line₀ at numbers count n place₀ i₀ line place i = n - i
-
-sign-requires : tie.Need-sign-requires Inv-loop μ-loop
-sign-requires c κs = tt
-
-same-length : tie.Need-same-length Inv-loop μ-loop
-same-length c = search needs
-
-returns : tie.Need-returns Inv-loop μ-loop
-returns c = tt
+μ-loop numbers count n line₀ i₀ line i = n - i
 
 size-requires : tie.Need-size-requires Inv-loop μ-loop
 size-requires c κs = tt
@@ -27,14 +17,26 @@ size-requires c κs = tt
 smaller-requires : tie.Need-smaller-requires Inv-loop μ-loop
 smaller-requires c κs = tt
 
+sign-requires : tie.Need-sign-requires Inv-loop μ-loop
+sign-requires c κs = tt
+
+sign-if-requires : tie.Need-sign-if-requires Inv-loop μ-loop
+sign-if-requires c κs = tt
+
 loop-holds : tie.Need-loop-holds Inv-loop μ-loop
 loop-holds c = search needs
 
-shared-slice-read-listed : tie.Need-shared-slice-read-listed Inv-loop μ-loop
-shared-slice-read-listed c = search needs
+sign-if-requires-2 : tie.Need-sign-if-requires-2 Inv-loop μ-loop
+sign-if-requires-2 c κs = tt
 
-listed-requires : tie.Need-listed-requires Inv-loop μ-loop
-listed-requires c κs = tt
+shared-slice-read-wide : tie.Need-shared-slice-read-wide Inv-loop μ-loop
+shared-slice-read-wide c = search needs
+
+wide-requires : tie.Need-wide-requires Inv-loop μ-loop
+wide-requires c κs = tt
+
+number-requires : tie.Need-number-requires Inv-loop μ-loop
+number-requires c κs = tt
 
 add-i : tie.Need-add-i Inv-loop μ-loop
 add-i c = search needs
@@ -45,11 +47,8 @@ loop-less c = search needs
 loop-again : tie.Need-loop-again Inv-loop μ-loop
 loop-again c = search needs
 
-same-length-2 : tie.Need-same-length-2 Inv-loop μ-loop
-same-length-2 c = search needs
-
-returns-2 : tie.Need-returns-2 Inv-loop μ-loop
-returns-2 c = tt
+returns : tie.Need-returns Inv-loop μ-loop
+returns c = tt
 
 pub list-spec : {M : Type 1} → statement M
 list-spec =
@@ -57,16 +56,16 @@ list-spec =
     (tie.spec
     Inv-loop
     μ-loop
-    sign-requires
-    same-length
-    returns
     size-requires
     smaller-requires
+    sign-requires
+    sign-if-requires
     loop-holds
-    shared-slice-read-listed
-    listed-requires
+    sign-if-requires-2
+    shared-slice-read-wide
+    wide-requires
+    number-requires
     add-i
     loop-less
     loop-again
-    same-length-2
-    returns-2)
+    returns)

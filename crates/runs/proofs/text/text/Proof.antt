@@ -1,16 +1,15 @@
 -- `runs::text::text` is safe and ends: it counts up to the length of what is said.
 use Prim.Native.Nat.{_-_, _≤_}
-use mathlib.Core.Path.{_≡_}
 use borrow.Author.Needs.{needs}
 use lib.ListN.{length}
 use Rattle.runs.proofs.text.text.Statement.{statement}
 use Rattle.runs.proofs.text.text.Tie as tie
 
 abbrev Inv-loop : tie.InvT-loop
-Inv-loop line₀ at words place₀ i₀ line place i = (i ≤ length words) × (length line ≡ length line₀)
+Inv-loop line₀ words i₀ line i = i ≤ length words
 
 abbrev μ-loop : tie.MeasureT-loop
-μ-loop line₀ at words place₀ i₀ line place i = length words - i
+μ-loop line₀ words i₀ line i = length words - i
 
 loop-holds : tie.Need-loop-holds Inv-loop μ-loop
 loop-holds c = search needs
@@ -30,9 +29,6 @@ loop-less c = search needs
 loop-again : tie.Need-loop-again Inv-loop μ-loop
 loop-again c = search needs
 
-same-length : tie.Need-same-length Inv-loop μ-loop
-same-length c = search needs
-
 returns : tie.Need-returns Inv-loop μ-loop
 returns c = tt
 
@@ -48,5 +44,4 @@ text-spec =
     add-i
     loop-less
     loop-again
-    same-length
     returns)

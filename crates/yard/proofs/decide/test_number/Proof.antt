@@ -1,5 +1,5 @@
 use borrow.Author.Needs.{needs}
-use Rattle.yard.specs.Settled.{testNumber}
+use Rattle.rule.specs.Lent.{testNumber}
 use Rattle.yard.proofs.decide.test_number.Statement.{statement}
 use Rattle.yard.proofs.decide.test_number.Tie as tie
 

@@ -1,5 +1,5 @@
 use borrow.Author.Needs.{needs}
-use Rattle.yard.specs.Prepared.{freshNumberOf}
+use Rattle.rule.specs.Fresh.{freshNumberOf}
 use Rattle.yard.proofs.fresh.fresh_number.Statement.{statement}
 use Rattle.yard.proofs.fresh.fresh_number.Tie as tie
 

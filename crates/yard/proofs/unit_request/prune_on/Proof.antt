@@ -1,7 +1,7 @@
 use borrow.Author.Needs.{needs}
 use mathlib.Core.Path.{_≡_, ap, _∙_}
 use Rattle.rule.specs.Serve.{saying, bare}
-use Rattle.client.specs.declared.message.Reply.{Reply}
+use Rattle.client.specs.declared.Reply.{Reply}
 use Rattle.yard.proofs.Doing.{prune-does}
 use Rattle.yard.proofs.unit_request.prune_on.Statement.{statement}
 use Rattle.yard.proofs.unit_request.prune_on.Tie as tie

@@ -1,7 +1,7 @@
 use borrow.Author.Needs.{needs}
 use mathlib.Core.Path.{_≡_, ap, _∙_, sym}
 use Rattle.rule.specs.Serve.{saying, bare}
-use Rattle.client.specs.declared.message.Reply.{Reply}
+use Rattle.client.specs.declared.Reply.{Reply}
 use lib.Seq.{length-take-le}
 use native.Mathlib.Omega.{arith}
 use Rattle.yard.proofs.Doing.{write-does}

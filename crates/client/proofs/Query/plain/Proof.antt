@@ -1,0 +1,16 @@
+-- `client::Query::plain` meets its contract.
+use borrow.Author.Needs.{needs}
+use Rattle.client.proofs.Query.plain.Statement.{statement}
+use Rattle.client.proofs.Query.plain.Tie as tie
+
+blank-requires : tie.Need-blank-requires
+blank-requires c κs = search needs
+
+blank-requires-2 : tie.Need-blank-requires-2
+blank-requires-2 c κs = search needs
+
+returns : tie.Need-returns
+returns c = rw (c .blank2 .ensures, c .before .blank .ensures)
+
+pub plain-spec : {M : Type 1} → statement M
+plain-spec = tie.close (tie.spec blank-requires blank-requires-2 returns)
