@@ -1,6 +1,6 @@
 -- New sets as bytes, and the wish that is made of them: what a plan over the wish answers is what it answers over the sets.
 use Prim.Native.Nat.{ℕ, zero, suc, _+_, min, _≤_}
-use mathlib.Core.Bool.{Bool, true, false, _&&_, _||_, not, cond}
+use mathlib.Core.Bool.{Bool, true, false, _&&_, _||_, not, cond, or-true}
 use mathlib.Core.List.{List, [], _∷_, map}
 use mathlib.Core.Path.{_≡_, refl, sym, ap, _∙_}
 use native.Mathlib.Omega.{arith}
@@ -35,10 +35,6 @@ named-in b u = go (areSets b)
     go : (t : Bool) → (t && inSets u (setsSaid b)) ≡ inSets u (cond t (setsSaid b) [])
     go true = refl
     go false = refl
-
-or-true : (a : Bool) → (a || true) ≡ true
-or-true true = refl
-or-true false = refl
 
 -- where the bytes are not good sets, the drops are refused with them
 bad-named : (drops b : List ℕ) (t : Bool) → areSets b ≡ t → (badDrops drops (cond t (setsSaid b) []) || not (eqb (length b) 0 || t)) ≡ (badDrops drops (setsSaid b) || not (eqb (length b) 0 || t))

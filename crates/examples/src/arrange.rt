@@ -73,7 +73,10 @@ fn with_yard(mut yard: Yard, what: u64, n: u64, m: u64) -> Yard {
 }
 
 // In the layout of the letter at a place the first set is that unit alone.
-fn with_offer(mut table: [Letter; 32], place: u64, u: u64) -> [Letter; 32] {
+fn with_offer(mut table: [Letter; 32], what: u64, place: u64, u: u64) -> [Letter; 32] {
+    if what != Do::OFFER {
+        return table;
+    }
     let at = (place % 32) as usize;
     let mut letter = table[at];
     let mut offered = letter.layout;
@@ -126,17 +129,14 @@ pub(crate) fn arrange_units(units: &mut [u8], row: Line) {
 
 // A change of what is kept by value.
 pub(crate) fn arrange(mut kept: Kept, row: Line) -> Kept {
+    let yard = kept.yard;
+    let table = kept.table;
     let what = row[1];
     let n = row[2];
     let m = row[3];
-    if what == Do::OFFER {
-        let table = kept.table;
-        let next = with_offer(table, n, m);
-        kept.table = next;
-        return kept;
-    }
-    let yard = kept.yard;
-    let next = with_yard(yard, what, n, m);
-    kept.yard = next;
+    let changed = with_yard(yard, what, n, m);
+    let offered = with_offer(table, what, n, m);
+    kept.yard = changed;
+    kept.table = offered;
     kept
 }

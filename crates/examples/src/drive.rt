@@ -23,7 +23,6 @@ use kept::KeptStep;
 use kept::fresh_kept;
 use kept::step_kept;
 use num::bytes::wide;
-use rule::Letter;
 use rule::Stepped;
 use say::text;
 
@@ -33,16 +32,11 @@ pub(crate) struct Tally {
     pub wrong: u64,
 }
 
-// The yard between two steps, and the steps so far.
+// The yard between two steps, the steps so far, and what came of the last.
 struct Run {
     pub kept: Kept,
     pub tally: Tally,
-}
-
-// What came of a step, and the yard after it.
-struct Done {
     pub got: Seen,
-    pub kept: Kept,
 }
 
 fn same(a: Seen, b: Seen) -> bool {
@@ -83,18 +77,6 @@ fn seen(stepped: Stepped) -> Seen {
     ]
 }
 
-fn after(t: KeptStep) -> Kept {
-    let stepped = t.stepped;
-    let yard = stepped.yard;
-    let sequencer = t.sequencer;
-    let table = t.table;
-    Kept {
-        yard,
-        sequencer,
-        table,
-    }
-}
-
 fn makes(units: &mut [u8], row: Line) -> KeptMade {
     let held = first_layout(row[2]);
     if row[3] == 1 {
@@ -106,51 +88,71 @@ fn makes(units: &mut [u8], row: Line) -> KeptMade {
 }
 
 // A fresh yard; where none is made the old one stays.
-fn begins_anew(mut kept: Kept, units: &mut [u8], row: Line) -> Done {
+fn begins_anew(mut run: Run, units: &mut [u8], row: Line) -> Run {
     let made = makes(units, row);
     if made.answer == 0 {
-        kept = made.kept;
+        let kept = made.kept;
+        run.kept = kept;
     }
-    Done {
-        got: [wide(made.answer), 0, 0, 0, 0, 0],
-        kept,
-    }
+    let got = [wide(made.answer), 0, 0, 0, 0, 0];
+    run.got = got;
+    run
 }
 
-fn steps_on(kept: Kept, units: &mut [u8], row: Line) -> Done {
-    if row[1] == Do::FRESH {
-        return begins_anew(kept, units, row);
-    }
-    let t = step_kept(kept, units, step_of(row), job_of(row));
+// The run after a step.
+fn after(mut run: Run, t: KeptStep) -> Run {
     let stepped = t.stepped;
+    let yard = stepped.yard;
+    let sequencer = t.sequencer;
+    let table = t.table;
+    let kept = Kept {
+        yard,
+        sequencer,
+        table,
+    };
     let got = seen(stepped);
-    let next = after(t);
-    Done { got, kept: next }
+    run.kept = kept;
+    run.got = got;
+    run
 }
 
-fn letter_at(kept: Kept, place: u64) -> Letter {
-    let table = kept.table;
-    let at = (place % 32) as usize;
-    table[at]
-}
-
-fn goes_on(run: Run, units: &mut [u8], row: Line, last: bool) -> Run {
+fn steps_on(run: Run, units: &mut [u8], row: Line) -> Run {
+    if row[1] == Do::FRESH {
+        return begins_anew(run, units, row);
+    }
     let kept = run.kept;
-    let tally = run.tally;
+    after(run, step_kept(kept, units, step_of(row), job_of(row)))
+}
+
+// The number of a step, and the step.
+fn announce(run: Run, row: Line) {
+    let kept = run.kept;
+    let table = kept.table;
+    let at = (row[2] % 32) as usize;
+    let letter = table[at];
+    say_step(more(run.tally.steps), row, letter);
+}
+
+fn arranges(mut run: Run, units: &mut [u8], row: Line) -> Run {
+    let kept = run.kept;
+    let next = arrange(kept, row);
+    run.kept = next;
+    say_arranged(row);
+    arrange_units(units, row);
+    run
+}
+
+fn goes_on(mut run: Run, units: &mut [u8], row: Line, last: bool) -> Run {
     if Do::FRESH < row[1] {
-        say_arranged(row);
-        arrange_units(units, row);
-        let next = arrange(kept, row);
-        return Run { kept: next, tally };
+        return arranges(run, units, row);
     }
-    say_step(more(tally.steps), row, letter_at(kept, row[2]));
-    let done = steps_on(kept, units, row);
-    let got = done.got;
-    let next = done.kept;
-    Run {
-        kept: next,
-        tally: judged(tally, got, wanted(row, last)),
-    }
+    announce(run, row);
+    run = steps_on(run, units, row);
+    let tally = run.tally;
+    let got = run.got;
+    let next = judged(tally, got, wanted(row, last));
+    run.tally = next;
+    run
 }
 
 // The end of a line has it taken, as often as it says; an empty one has nothing done.
@@ -190,6 +192,7 @@ pub(crate) fn play_all(units: &mut [u8]) -> Tally {
     let mut run = Run {
         kept,
         tally: Tally { steps: 0, wrong: 0 },
+        got: [0u64; 6],
     };
     let mut k: usize = 0;
     while k < 13 {

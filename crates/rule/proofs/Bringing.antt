@@ -1,6 +1,6 @@
 -- To whom a letter is brought: an answer to the client that it names and to no other, and nothing to a unit that has stopped.
 use mathlib.Core.Path.{_≡_, refl, sym, ap, subst}
-use mathlib.Core.Bool.{Bool, true, false, _||_, not, cond}
+use mathlib.Core.Bool.{Bool, true, false, _||_, not, cond, or-true}
 use mathlib.Core.List.{List, _++_}
 use native.Mathlib.Omega.{arith}
 use lib.ListN.{getD}
@@ -79,10 +79,6 @@ stopped-unserved stopped u (Trim _ e p) trims is = ap not (not-running stopped u
 stopped-unserved stopped u (Prune _ e p) prunes is = ap not (not-running stopped u is)
 stopped-unserved stopped u (Seal _ e) seals is = ap not (not-running stopped u is)
 
-or-true : (b : Bool) → (b || true) ≡ true
-or-true true = refl
-or-true false = refl
-
 pub stopped-silent : (w : World) (i : ℕ) (keep keepAnswer : Bool) (u : ℕ) (a : Ask) → letterAt w i .body ≡ Asks a → AsksUnit u a → getD (w .stopped) (u - 1) true ≡ true
     → delivers w i keep keepAnswer ≡ refused w 17
 unfolding delivers delivered
@@ -96,4 +92,4 @@ stopped-silent w i keep keepAnswer u a is at stopped =
     ls = keeping keep i (w .letters)
 
     refused-so : cond (unbrought w l (Asks a)) (refused w 17) (brought w ls keepAnswer l (Asks a)) ≡ refused w 17
-    refused-so = rw (stopped-unserved (w .stopped) u a at stopped, or-true (not (isClient (l .stamp .client))))
+    refused-so = rw (stopped-unserved (w .stopped) u a at stopped, or-true)

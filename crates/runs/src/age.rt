@@ -7,6 +7,7 @@ use num::Epoch;
 use num::Position;
 use num::Request;
 use rule::Yard;
+use sequencer::Sequencer;
 use sequencer::start_step;
 
 // Near their last life and their last request number.
@@ -50,19 +51,24 @@ fn old_yard(mut yard: Yard, age: u64) -> Yard {
     yard
 }
 
+fn old_sequencer(s: Sequencer, age: u64) -> Sequencer {
+    if age == 1 {
+        let started = start_step(s, Epoch(4_294_967_291), Position(0));
+        return started.after;
+    }
+    s
+}
+
 // A fresh yard is made as old as it is drawn: its clients, or the epochs of its units, its held layout and its sequencer.
 pub(crate) fn aged(raw: [u64; 64], made: KeptMade, units: &mut [u8]) -> Kept {
     let mut kept = made.kept;
     let age = of(raw, 8, 16);
     seal_all(units, age == 1);
+    let sequencer = kept.sequencer;
+    let next = old_sequencer(sequencer, age);
+    kept.sequencer = next;
     let yard = kept.yard;
     let older = old_yard(yard, age);
     kept.yard = older;
-    if age == 1 {
-        let sequencer = kept.sequencer;
-        let started = start_step(sequencer, Epoch(4_294_967_291), Position(0));
-        let next = started.after;
-        kept.sequencer = next;
-    }
     kept
 }

@@ -58,17 +58,13 @@ fn sets(d: u64, all: [Chain; 16], count: u8) -> u64 {
     e
 }
 
-fn range(d: u64, r: Range) -> u64 {
-    byte(number(d, r.start.0, 8), r.sets)
-}
-
 fn ranges(d: u64, all: [Range; 8], count: u8) -> u64 {
     let n = smaller(size(count), 8);
     let mut e = byte(d, count);
     let mut i = 0;
     while i < n {
         let r = all[i];
-        e = range(e, r);
+        e = byte(number(e, r.start.0, 8), r.sets);
         i += 1;
     }
     e

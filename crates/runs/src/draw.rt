@@ -7,13 +7,6 @@ pub(crate) struct Drawn {
     pub raw: [u64; 64],
 }
 
-// Where the generator starts.
-pub(crate) fn seeded(seed: u64) -> u64
-    ensures { λ r. ⌜ r < 2147483647 ⌝ }
-{
-    seed % 2_147_483_646 + 1
-}
-
 // The first remainder changes nothing, since each number drawn is below the modulus: it spares an invariant.
 pub(crate) fn draw(x: u64) -> Drawn {
     let mut raw = [0u64; 64];

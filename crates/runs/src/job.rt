@@ -19,11 +19,6 @@ enum Kind {
     Reorganise,
 }
 
-// Where nothing is asked for.
-pub(crate) fn no_job() -> Job {
-    Job::of(Work::Append)
-}
-
 // From 3 below the sequencer's count to the count.
 fn near(raw: [u64; 64], next: u64) -> u64 {
     let up = smaller(next, 1_099_511_627_776) + of(raw, 8, 4);
@@ -50,15 +45,13 @@ fn far(raw: [u64; 64], tall: bool) -> u64 {
 
 // Mostly small, or where appends are, or where the last operation was.
 fn position(raw: [u64; 64], seen: Seen) -> u64 {
-    let memo = seen.memo;
-    let mood = seen.mood;
     match of(raw, 7, 16) {
         0..=2 => of(raw, 8, 8),
         3 | 4 => of(raw, 8, 16),
         5 => of(raw, 8, 256),
         6..=9 => near(raw, seen.next),
-        10..=14 => memo.position,
-        _ => far(raw, mood.tall),
+        10..=14 => seen.memo.position,
+        _ => far(raw, seen.mood.tall),
     }
 }
 
@@ -73,11 +66,10 @@ fn fill_position(raw: [u64; 64], seen: Seen) -> u64 {
 
 // A prune's: smaller.
 fn prune_position(raw: [u64; 64], seen: Seen) -> u64 {
-    let mood = seen.mood;
     match of(raw, 7, 16) {
         0..=11 => of(raw, 8, 6),
         12..=14 => near(raw, seen.next),
-        _ => far(raw, mood.tall),
+        _ => far(raw, seen.mood.tall),
     }
 }
 
@@ -102,11 +94,6 @@ fn data_bytes(raw: [u64; 64], length: u64) -> [u8; 32] {
         i += 1;
     }
     bytes
-}
-
-fn appending(raw: [u64; 64]) -> Job {
-    let length = data_length(raw);
-    Job::append(length as u8, data_bytes(raw, length))
 }
 
 fn busy_kind(n: u64) -> Kind {
@@ -139,9 +126,7 @@ fn kind_of(raw: [u64; 64], busy: bool, last: u8) -> Kind {
 }
 
 fn work_of(raw: [u64; 64], seen: Seen) -> Work {
-    let memo = seen.memo;
-    let mood = seen.mood;
-    match kind_of(raw, mood.busy, memo.last) {
+    match kind_of(raw, seen.mood.busy, seen.memo.last) {
         Kind::Append => Work::Append,
         Kind::Read => Work::Read(Position(position(raw, seen))),
         Kind::Fill => Work::Fill(Position(fill_position(raw, seen))),
@@ -155,7 +140,10 @@ pub(crate) fn drawn_job(raw: [u64; 64], seen: Seen) -> Job {
     let stopped = seen.stopped;
     let work = work_of(raw, seen);
     match work {
-        Work::Append => appending(raw),
+        Work::Append => {
+            let length = data_length(raw);
+            Job::append(length as u8, data_bytes(raw, length))
+        }
         Work::Reorganise => Job::reorganise(drawn_change(raw, stopped)),
         _ => Job::of(work),
     }

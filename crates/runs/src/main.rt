@@ -1,7 +1,6 @@
 // Draws runs of the yard from seeds, takes them with the proved yard, and prints a line for each step, as docs/RUNS.md has it.
 use crate::age::aged;
 use crate::draw::draw;
-use crate::draw::seeded;
 use crate::input::line_at;
 use crate::memo::Memo;
 use crate::seen::look;
@@ -106,7 +105,7 @@ fn steps(units: &mut [u8], mut kept: Kept, mut run: Run, count: u32) -> bool {
 
 // A whole run; only its first line where the layout makes no yard.
 fn run_of(units: &mut [u8], seed: u64, count: u32) -> bool {
-    let drawn = draw(seeded(seed));
+    let drawn = draw(seed % 2_147_483_646 + 1);
     let raw = drawn.raw;
     let layout = drawn_layout(raw);
     let made = fresh_kept(layout, units);

@@ -38,30 +38,23 @@ fn with_begun(mut memo: Memo, c: u8, n: u32) -> Memo {
     memo
 }
 
-fn with_stuck(mut memo: Memo, is_stuck: bool, place: u8) -> Memo {
-    memo.is_stuck = is_stuck;
-    memo.stuck = place;
-    memo
-}
-
 // After the step `n`, which answered so and left so many letters.
-pub(crate) fn noted(memo: Memo, n: u32, step: Step, answer: u8, letters: u8) -> Memo {
-    let free = with_stuck(memo, false, 0);
+pub(crate) fn noted(mut memo: Memo, n: u32, step: Step, answer: u8, letters: u8) -> Memo {
+    memo.is_stuck = false;
+    memo.stuck = 0;
     match step {
         Step::Begin(c) => {
             if answer == Answer::FINE {
-                with_begun(free, c, n)
-            } else {
-                free
+                memo = with_begun(memo, c, n);
             }
         }
-        Step::Deliver(place, _, _) => with_stuck(
-            memo,
-            (answer == Answer::NOBODY) & (place < letters),
-            place,
-        ),
-        _ => free,
+        Step::Deliver(place, _, _) => {
+            memo.is_stuck = (answer == Answer::NOBODY) & (place < letters);
+            memo.stuck = place;
+        }
+        _ => {}
     }
+    memo
 }
 
 // Where an operation of client `who` ended; 0 is nobody.

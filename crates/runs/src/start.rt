@@ -58,24 +58,15 @@ fn drawn_ranges(raw: [u64; 64], count: u64) -> [Range; 8]
     ranges
 }
 
-// With a unit that there is not.
-fn with_stranger(set: Chain) -> Chain {
-    let mut units = set.units;
-    units[0] = 9;
-    Chain {
-        count: set.count,
-        units,
-    }
-}
-
+// A spoilt first set has a unit that there is not.
 fn first_sets(raw: [u64; 64], count: u64) -> [Chain; 16]
     requires { ⌜ count ≤ 4 ⌝ }
 {
     let mut sets = drawn_sets(raw, 16, count);
     if spoils(raw, 3) {
-        let first = sets[0];
-        let next = with_stranger(first);
-        sets[0] = next;
+        let mut first = sets[0];
+        first.units[0] = 9;
+        sets[0] = first;
     }
     sets
 }

@@ -3,14 +3,14 @@ ghost use Prim.Native.Nat.{_<_, _≤_};
 use crate::change::stopped_units;
 use crate::draw::of;
 use crate::job::drawn_job;
-use crate::job::no_job;
 use crate::seen::Seen;
+use client::Work;
 use client::state::Job;
 use num::bytes::size;
 use num::bytes::wide;
 use rule::Step;
 
-// A step, and what a begin asks for.
+// A step, and what a begin asks for; any job where nothing is asked for.
 pub(crate) struct Chosen {
     pub step: Step,
     pub job: Job,
@@ -44,31 +44,21 @@ fn is_lately(begun: [u32; 4], who: u8, n: u32) -> bool {
     wider(n) < wider(begun[at]) + 100
 }
 
-// Is the client of that number, from 1 on, busy?
-fn is_busy(busy: [bool; 4], c: u8) -> bool
-    requires { ⌜ (1 ≤ c) × (c ≤ 4) ⌝ }
-{
-    let at = size(c) - 1;
-    busy[at]
-}
-
 // The first idle one of a client and those that follow it, 1 after 4; itself where none is idle.
 fn first_idle(busy: [bool; 4], c: u8) -> u8
     requires { ⌜ (1 ≤ c) × (c ≤ 4) ⌝ }
 {
-    let second = c % 4 + 1;
-    let third = second % 4 + 1;
-    let fourth = third % 4 + 1;
-    if !is_busy(busy, c) {
-        return c;
+    let mut next = c;
+    let mut i: usize = 0;
+    while i < 4 {
+        let at = size(next) - 1;
+        if !busy[at] {
+            return next;
+        }
+        next = next % 4 + 1;
+        i += 1;
     }
-    if !is_busy(busy, second) {
-        return second;
-    }
-    if !is_busy(busy, third) {
-        return third;
-    }
-    if is_busy(busy, fourth) { c } else { fourth }
+    next
 }
 
 fn to_begin(raw: [u64; 64], busy: [bool; 4]) -> u8 {
@@ -141,9 +131,8 @@ fn to_stop(raw: [u64; 64], stopped: [bool; 8], mortal: bool) -> u8 {
 }
 
 fn delivery(raw: [u64; 64], seen: Seen) -> Step {
-    let mood = seen.mood;
-    let keeps = of(raw, 10, 64) < mood.keep;
-    let keeps_answer = mood.lose <= of(raw, 11, 64);
+    let keeps = of(raw, 10, 64) < seen.mood.keep;
+    let keeps_answer = seen.mood.lose <= of(raw, 11, 64);
     Step::Deliver(to_deliver(raw, seen.letters), keeps, keeps_answer)
 }
 
@@ -162,14 +151,13 @@ fn common(raw: [u64; 64], seen: Seen, q: u64) -> Step {
 
 // The restarts, stops and forgets.
 fn rare(raw: [u64; 64], seen: Seen, q: u64) -> Step {
-    let mood = seen.mood;
     let stopped = seen.stopped;
     let r = of(raw, 0, 128);
     if (r == 36) & (q < 4) {
         return Step::Restart(who_of(raw));
     }
     if (r == 37) & (q < 2) {
-        return Step::Stop(to_stop(raw, stopped, mood.mortal));
+        return Step::Stop(to_stop(raw, stopped, seen.mood.mortal));
     }
     if (r == 38) & (q < 4) {
         return Step::Forget;
@@ -180,7 +168,6 @@ fn rare(raw: [u64; 64], seen: Seen, q: u64) -> Step {
 // The step of number `n`, of those that apply the first.
 fn step_of(raw: [u64; 64], seen: Seen, n: u32) -> Step {
     let memo = seen.memo;
-    let mood = seen.mood;
     let busy = seen.busy;
     let begun = memo.begun;
     let who = who_of(raw);
@@ -195,7 +182,7 @@ fn step_of(raw: [u64; 64], seen: Seen, n: u32) -> Step {
     if (24 <= r) & (r < 34) & (!is_lately(begun, who, n) | (q == 0)) {
         return Step::GiveUp(who);
     }
-    if (34 <= r) & (r < 36) & (!mood.busy | (q == 0)) {
+    if (34 <= r) & (r < 36) & (!seen.mood.busy | (q == 0)) {
         return Step::Drop(to_drop(raw, seen.letters));
     }
     rare(raw, seen, q)
@@ -209,7 +196,7 @@ pub(crate) fn choose(raw: [u64; 64], seen: Seen, n: u32) -> Chosen {
             Chosen { step, job }
         }
         _ => {
-            let job = no_job();
+            let job = Job::of(Work::Append);
             Chosen { step, job }
         }
     }

@@ -45,16 +45,6 @@ fn ask_fields(ask: Ask) -> Fields {
     }
 }
 
-fn refused(n: u8) -> Fields {
-    Fields {
-        tag: 15,
-        unit: 0,
-        epoch: 0,
-        position: 0,
-        refusal: n,
-    }
-}
-
 fn reply_fields(reply: Reply) -> Fields {
     match reply {
         Reply::Held => plain(10, 0, 0, 0),
@@ -62,7 +52,13 @@ fn reply_fields(reply: Reply) -> Fields {
         Reply::Fine => plain(12, 0, 0, 0),
         Reply::Shown => plain(13, 0, 0, 0),
         Reply::Edge(p) => plain(14, 0, 0, p.0),
-        Reply::Refused(n) => refused(n),
+        Reply::Refused(n) => Fields {
+            tag: 15,
+            unit: 0,
+            epoch: 0,
+            position: 0,
+            refusal: n,
+        },
     }
 }
 

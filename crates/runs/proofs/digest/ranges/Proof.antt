@@ -28,8 +28,11 @@ mul-r c = search needs
 array-copy-out-r : tie.Need-array-copy-out-r Inv-loop μ-loop
 array-copy-out-r c = search needs
 
-range-requires : tie.Need-range-requires Inv-loop μ-loop
-range-requires c κs = tt
+number-requires : tie.Need-number-requires Inv-loop μ-loop
+number-requires c κs = tt
+
+byte-requires-2 : tie.Need-byte-requires-2 Inv-loop μ-loop
+byte-requires-2 c κs = tt
 
 add-i : tie.Need-add-i Inv-loop μ-loop
 add-i c = search needs
@@ -55,7 +58,8 @@ ranges-spec =
     loop-holds
     mul-r
     array-copy-out-r
-    range-requires
+    number-requires
+    byte-requires-2
     add-i
     loop-less
     loop-again
