@@ -3,3 +3,5 @@ pub mod Lists
 pub mod Tidy
 pub mod Refusing
 pub mod Bringing
+pub mod Leaving
+pub mod Restarting

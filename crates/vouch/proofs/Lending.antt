@@ -1,29 +1,22 @@
 -- No step of a run is refused for what it is lent, and the yard that is lent is the run's: `lends`.
--- Rests on Coming, Numbered and the unit's laws.
+-- Rests on Coming, Numbered and the rule's laws.
 use mathlib.Core.Path.{_≡_, refl, sym, ap, subst, _∙_}
 use mathlib.Core.Bool.{true, not, _||_}
-use mathlib.Core.List.{List, [], _∷_, _++_}
-use Prim.Native.Nat.{ℕ, zero, suc, _+_, _-_, _≤_, _<_, max}
+use Prim.Native.Nat.{ℕ, _+_, _-_, _<_}
 use native.Mathlib.Omega.{arith}
-use lib.Dec.{eqb}
-use lib.ListN.{length, take, drop, getD, replicate, length-append, length-drop, length-replicate}
-use borrow.Author.Tests.{eqb-true, eq-eqb, le-ltb}
-use Rattle.num.proofs.Tests.{and-both}
+use lib.ListN.{getD}
 use Rattle.layout.specs.declared.Layout.{Layout}
 use Rattle.layout.specs.Value.{goodValue}
-use Rattle.unit.specs.Shape.{small, memorySize}
-use Rattle.unit.specs.State.{State}
-use Rattle.unit.specs.Memory.{good, decode, encode, numberOf, valid}
+use Rattle.unit.specs.Memory.{good}
 use Rattle.unit.specs.Unit.{freshUnit}
-use Rattle.unit.proofs.Decoding.{decode-encode, encode-good}
 use Rattle.client.specs.declared.Client.{Client}
 use Rattle.client.specs.declared.Stage.{Stage}
 use Rattle.client.specs.declared.Stage.the-variants.{Idle, Fetching, Drawing, Writing, Reading, Filling, Looking, Trimming, Pruning, Sealing, Offering, Starting}
 use Rattle.client.specs.Client.{fresh}
-use Rattle.rule.specs.declared.Letter.{Letter}
-use Rattle.rule.specs.World.{World, blankLetter, unitAt, clientAt}
-use Rattle.rule.specs.Lent.{Lent, Outcomes, unitSize, goodUnits, fetched, goodClients, testNumber, lentNumber, unitsIn, seen, unitsBytes, laid, left, done, steps}
+use Rattle.rule.specs.World.{unitAt, clientAt}
+use Rattle.rule.specs.Lent.{Lent, Outcomes, fetched, lentNumber, seen, laid, left, done, steps}
 use Rattle.rule.specs.Fresh.{freshWorld, freshLent}
+use Rattle.rule.proofs.Leaving.{Fit, Told, Lendable, Room, all-from, left-room, left-seen, left-number}
 use Rattle.history.specs.History.{History}
 use Rattle.vouch.specs.Runs.{Move, Moves, result, world}
 use Rattle.vouch.specs.Runs.Moves.{none, _▸_}
@@ -31,74 +24,6 @@ use Rattle.vouch.specs.Lending.{lent, Lends}
 use Rattle.vouch.proofs.Meaning.{StageOk}
 use Rattle.vouch.proofs.Coming.{come}
 use Rattle.vouch.proofs.Numbered.{tidy}
-
--- ---- lists
-
-take-front : {A : Type 0} (n : ℕ) (xs ys : List A) → length xs ≡ n → take n (xs ++ ys) ≡ xs
-take-front zero [] ys e = refl
-take-front zero (x ∷ xs) ys e = absurd (omega arith)
-take-front (suc n) [] ys e = absurd (omega arith)
-take-front (suc n) (x ∷ xs) ys e = ap (λ zs. x ∷ zs) (take-front n xs ys (omega arith))
-
-drop-front : {A : Type 0} (n : ℕ) (xs ys : List A) → length xs ≡ n → drop n (xs ++ ys) ≡ ys
-drop-front zero [] ys e = refl
-drop-front zero (x ∷ xs) ys e = absurd (omega arith)
-drop-front (suc n) [] ys e = absurd (omega arith)
-drop-front (suc n) (x ∷ xs) ys e = drop-front n xs ys (omega arith)
-
-regroup : {A : Type 0} (xs ys zs : List A) → (xs ++ ys) ++ zs ≡ xs ++ (ys ++ zs)
-regroup [] ys zs = refl
-regroup (x ∷ xs) ys zs = ap (λ us. x ∷ us) (regroup xs ys zs)
-
--- each, numbered from k on
-pub data AllFrom {A : Type 0} (P : ℕ → A → Type 0) : ℕ → List A → Type 0 where
-  from-none : {k : ℕ} → AllFrom P k []
-  from-more : {k : ℕ} {x : A} {xs : List A} → P k x → AllFrom P (suc k) xs → AllFrom P k (x ∷ xs)
-
-all-from : {A : Type 0} (P : ℕ → A → Type 0) (other : ℕ → A) (n k : ℕ) (xs : List A) → length xs ≡ n → ((i : ℕ) → i < n → P (k + i) (getD xs i (other (k + i)))) → AllFrom P k xs
-all-from P other n k [] e f = from-none
-all-from P other zero k (x ∷ xs) e f = absurd (omega arith)
-all-from P other (suc n) k (x ∷ xs) e f =
-    let here : k + 0 ≡ k = omega arith in
-    from-more (subst (λ j. P j x) here (f 0 (omega arith)))
-    (all-from P other n (suc k) xs (omega arith) (λ i lt. let at : k + suc i ≡ suc k + i = omega arith in subst (λ j. P j (getD xs i (other j))) at (f (suc i) (omega arith))))
-
--- ---- units
-
-pub record Fit (k : ℕ) (u : State) : Type 0 where
-  pub is-valid : valid small u ≡ true
-  pub number-is : u .number ≡ k
-
-encode-long : (u : State) → valid small u ≡ true → length (encode small u) ≡ unitSize
-unfolding good
-encode-long u v = eqb-true (length (encode small u)) (memorySize small) (and-both (eqb (length (encode small u)) (memorySize small)) _ (encode-good small u v (omega arith)) .0)
-
-encode-number : (u : State) → valid small u ≡ true → numberOf (encode small u) ≡ u .number
-unfolding decode
-encode-number u v = ap (λ (s : State). s .number) (decode-encode small u v (omega arith))
-
-units-seen : {k : ℕ} (us : List State) → AllFrom Fit k us → unitsIn (length us) (unitsBytes us) ≡ us
-unfolding unitsIn unitsBytes
-units-seen [] from-none = refl
-units-seen (u ∷ us) (from-more fit rest) =
-    rw (
-      take-front unitSize (encode small u) (unitsBytes us) (encode-long u (fit .is-valid)),
-      drop-front unitSize (encode small u) (unitsBytes us) (encode-long u (fit .is-valid)),
-      decode-encode small u (fit .is-valid) (omega arith),
-      units-seen us rest,
-    )
-
-units-good : {k : ℕ} (us : List State) → AllFrom Fit k us → goodUnits k (length us) (unitsBytes us) ≡ true
-unfolding goodUnits unitsBytes
-units-good [] from-none = refl
-units-good {k} (u ∷ us) (from-more fit rest) =
-    rw (
-      take-front unitSize (encode small u) (unitsBytes us) (encode-long u (fit .is-valid)),
-      drop-front unitSize (encode small u) (unitsBytes us) (encode-long u (fit .is-valid)),
-      encode-good small u (fit .is-valid) (omega arith),
-      eq-eqb (numberOf (encode small u)) k (encode-number u (fit .is-valid) ∙ fit .number-is),
-      units-good us rest,
-    )
 
 -- ---- clients
 
@@ -115,74 +40,6 @@ stage-good h c (Pruning u) ok = ok .fetched .is-good
 stage-good h c (Sealing u x) ok = ok .fetched .is-good
 stage-good h c (Offering p) ok = ok .fetched .is-good
 stage-good h c Starting ok = ok .fetched .is-good
-
-abbrev pub Told : ℕ → Client → Type 0
-Told k c = (not (fetched (c .stage)) || goodValue (c .layout)) ≡ true
-
-clients-good : {k : ℕ} (cs : List Client) → AllFrom Told k cs → goodClients cs ≡ true
-unfolding goodClients
-clients-good [] from-none = refl
-clients-good (c ∷ cs) (from-more ok rest) = rw (ok, clients-good cs rest)
-
--- ---- what is left after a step
-
--- a yard that may be lent
-pub record Lendable (w : World) : Type 0 where
-  pub units-fit : AllFrom Fit 1 (w .units)
-  pub eight : length (w .units) ≡ 8
-  pub held-good : goodValue (w .held) ≡ true
-  pub clients-fit : AllFrom Told 1 (w .clients)
-  pub few : length (w .letters) ≤ 32
-
--- the table and its count, as they were lent
-pub record Room (b : Lent) : Type 0 where
-  pub long : length (b .table) ≡ 32
-  pub count : b .yard .count ≤ 32
-
-module _ (b : Lent) (room : Room b) (w : World) (ok : Lendable w) where
-  letters-seen : take (length (w .letters)) (laid (w .letters) (b .yard .count) (b .table)) ≡ w .letters
-  unfolding laid
-  letters-seen =
-      let blanks = replicate (b .yard .count - length (w .letters)) blankLetter in
-      let behind = drop (max (b .yard .count) (length (w .letters))) (b .table) in
-      ap (λ (ls : List Letter). take (length (w .letters)) ls) (regroup (w .letters) blanks behind) ∙ take-front (length (w .letters)) (w .letters) (blanks ++ behind) refl
-
-  table-long : length (laid (w .letters) (b .yard .count) (b .table)) ≡ 32
-  unfolding laid
-  table-long =
-      let n = length (w .letters) in
-      let k = b .yard .count in
-      let blanks = replicate (k - n) blankLetter in
-      let behind = drop (max k n) (b .table) in
-      omega (arith, length-append (w .letters ++ blanks) behind, length-append (w .letters) blanks, length-replicate {A = Letter} (k - n) blankLetter, length-drop (max k n) (b .table), room .long, room .count, ok .few)
-
-  pub left-room : Room (left b w)
-  unfolding left
-  left-room = record { long = table-long; count = ok .few }
-
-  pub left-seen : seen (left b w) ≡ w
-  unfolding seen left
-  left-seen =
-      ap (λ (us : List State). record {
-        held = w .held;
-        clients = w .clients;
-        stopped = w .stopped;
-        units = us;
-        sequencer = w .sequencer;
-        letters = take (length (w .letters)) (laid (w .letters) (b .yard .count) (b .table));
-      }) (subst (λ n. unitsIn n (unitsBytes (w .units)) ≡ w .units) (ok .eight) (units-seen (w .units) (ok .units-fit)))
-      ∙ ap (λ (ls : List Letter). record { held = w .held; clients = w .clients; stopped = w .stopped; units = w .units; sequencer = w .sequencer; letters = ls }) letters-seen
-
-  pub left-number : lentNumber (left b w) ≡ 0
-  unfolding lentNumber testNumber left
-  left-number =
-      rw (
-        subst (λ n. goodUnits 1 n (unitsBytes (w .units)) ≡ true) (ok .eight) (units-good (w .units) (ok .units-fit)),
-        ok .held-good,
-        clients-good (w .clients) (ok .clients-fit),
-        table-long,
-        le-ltb 32 (length (w .letters)) (ok .few),
-      )
 
 -- ---- every run
 
