@@ -1,11 +1,11 @@
 -- Laws of good memory: a slot's goodness at an offset, and one turn of the loop over the slots.
-use Prim.Native.Nat.{ℕ, suc, _+_, _*_, _-_, _<_, _≤_}
+use Prim.Native.Nat.{ℕ, suc, _+_, _*_, _-_, _/_, _%_, _<_, _≤_}
 use mathlib.Core.Bool.{Bool, true, false, _&&_, _||_}
 use mathlib.Core.List.{List}
 use mathlib.Core.Path.{_≡_, refl, sym, ap, _∙_}
 use native.Mathlib.Omega.{arith}
 use native.Mathlib.Nat.{add-assoc}
-use borrow.Author.Tests.{leb-true, ltb-true, eqb-true, eq-eqb, ne-eqb}
+use borrow.Author.Tests.{leb-true, leb-false, le-leb, lt-leb, ltb-true, eqb-true, eq-eqb, ne-eqb}
 use lib.Dec.{leb, ltb, eqb}
 use lib.ListN.{length, getD, drop, length-drop}
 use lib.Seq.{getD-drop, drop-drop}
@@ -13,7 +13,10 @@ use Rattle.num.specs.Bytes.{le}
 use Rattle.unit.specs.Zeros.{zeros}
 use Rattle.unit.specs.Shape.{Shape, slotSize, memorySize}
 use Rattle.num.specs.Limits.{limit}
-use Rattle.num.proofs.Tests.{and-both}
+use Rattle.num.proofs.Tests.{and-both, and-false}
+use Rattle.num.proofs.Numbers.{Bytes, le-two, le-pair}
+use Rattle.unit.proofs.Fields.{and-assoc}
+use Rattle.unit.proofs.Words.{le-none}
 use Rattle.unit.specs.Memory.{goodFields, goodSlot, goodSlots, goodHeader, good, floorOf, countOf, numberOf}
 
 -- what good fields say
@@ -41,53 +44,80 @@ pub slot-at : (cap low at : ℕ) (m : List ℕ) → goodSlot cap low (drop at m)
 unfolding goodSlot
 slot-at cap low at m = simp (getD-drop, drop-drop, add-assoc)
 
--- the two answers of a test of a slot: f is the test of its fields, y and z those of its zeros
-module _ (cap low at : ℕ) (m : List ℕ) (p : ℕ) (f : Bool) (hp : p ≡ le 8 (drop at m))
-    (hf : f ≡ goodFields cap low p (getD m (at + 8) 0) (getD m (at + 9) 0)) where
-  pub slot-no : f ≡ false → false ≡ goodSlot cap low (drop at m)
-  slot-no e = sym (slot-at cap low at m ∙ rw (← hp, ← hf, e))
+fields-long : (cap low p kind len : ℕ) → cap < len → goodFields cap low p kind len ≡ false
+fields-long cap low p kind len h = rw (lt-leb len cap h, and-false)
 
-  pub slot-yes : (n : ℕ) (y z : Bool) → f ≡ true → n ≡ getD m (at + 9) 0 → y ≡ zeros 6 (drop (at + 10) m)
-      → z ≡ zeros (cap - n) (drop (at + 16 + n) m) → (y && z) ≡ goodSlot cap low (drop at m)
-  slot-yes n y z e hn hy hz = sym (slot-at cap low at m ∙ rw (← hp, ← hf, ← hn, ← hy, ← hz, e))
+-- a slot's second word: its kind, its length and the six bytes behind them
+pub tag-parts : (at : ℕ) (m : List ℕ) → at + 48 ≤ length m
+    → le 8 (drop (at + 8) m) ≡ getD m (at + 8) 0 + 256 * (getD m (at + 9) 0 + 256 * le 6 (drop (at + 10) m))
+tag-parts at m h =
+    let e9 : at + 8 + 1 ≡ at + 9 = omega arith in
+    let e10 : at + 8 + 2 ≡ at + 10 = omega arith in
+    let a = rw e10 at (le-two 2 6 (at + 8) m) in
+    let b = rw e9 at (le-pair m (at + 8) (omega arith)) in
+    omega arith
+
+-- The test of a slot by its words: f is the test of its fields as the second word, tag, has them; z that of its payload behind n bytes, last that behind
+-- its length.
+words-test : (cap low p tag kind len rest n : ℕ) (f z last : Bool) → cap < 256 → kind < 256 → len < 256 → tag ≡ kind + 256 * (len + 256 * rest)
+    → f ≡ goodFields cap low p (tag % 256) (tag / 256) → (tag / 256 ≤ cap → n ≡ tag / 256) → (n ≡ len → z ≡ last)
+    → (f && z) ≡ (goodFields cap low p kind len && (leb rest 0 && last))
+words-test cap low p tag kind len rest n f z last c hk hl ht hf hn hz = go (leb rest 0) refl (leb len cap) refl
+  where
+    others : tag / 256 ≡ len + 256 * rest
+    others = omega arith
+
+    fields : f ≡ goodFields cap low p kind (len + 256 * rest)
+    fields =
+        let k : tag % 256 ≡ kind = omega arith in
+        hf ∙ rw (k, others)
+
+    long : cap < len + 256 * rest → f ≡ false
+    long h = fields ∙ fields-long cap low p kind (len + 256 * rest) h
+
+    go : (s : Bool) → leb rest 0 ≡ s → (t : Bool) → leb len cap ≡ t → (f && z) ≡ (goodFields cap low p kind len && (leb rest 0 && last))
+    go true e true g =
+        let e0 = leb-true rest 0 e in
+        let g0 = leb-true len cap g in
+        let l : len + 256 * rest ≡ len = omega arith in
+        let k : n ≡ len = hn (omega (arith, others)) ∙ others ∙ l in
+        sym (rw (e, hz k, fields, l))
+    go true e false g =
+        let g0 = leb-false len cap g in
+        sym (rw (fields-long cap low p kind len g0, long (omega arith)))
+    go false e t g =
+        let e0 = leb-false rest 0 e in
+        sym (rw (e, and-false, long (omega arith)))
+
+pub slot-words : (cap low at : ℕ) (m : List ℕ) → Bytes m → at + 48 ≤ length m → cap < 256 → (p tag n : ℕ) (f z : Bool)
+    → p ≡ le 8 (drop at m) → tag ≡ le 8 (drop (at + 8) m) → f ≡ goodFields cap low p (tag % 256) (tag / 256) → (tag / 256 ≤ cap → n ≡ tag / 256)
+    → z ≡ zeros (cap - n) (drop (at + 16 + n) m) → (f && z) ≡ goodSlot cap low (drop at m)
+slot-words cap low at m by r c p tag n f z hp ht hf hn hz =
+    words-test cap low p tag (getD m (at + 8) 0) (getD m (at + 9) 0) (le 6 (drop (at + 10) m)) n f z
+    (zeros (cap - getD m (at + 9) 0) (drop (at + 16 + getD m (at + 9) 0) m)) c (by (at + 8) .fits) (by (at + 9) .fits) (ht ∙ tag-parts at m r) hf hn
+    (λ e. hz ∙ ap (λ (k : ℕ). zeros (cap - k) (drop (at + 16 + k) m)) e)
+    ∙ sym (slot-at cap low at m ∙ rw (hp, le-none 6 (drop (at + 10) m)))
 
 -- what a good slot says
 pub slot-fields : (cap low : ℕ) (xs : List ℕ) → goodSlot cap low xs ≡ true → FieldsGood cap low (le 8 xs) (getD xs 8 0) (getD xs 9 0)
 unfolding goodSlot
 slot-fields cap low xs h = fields-good cap low (le 8 xs) (getD xs 8 0) (getD xs 9 0) (and-both _ _ h .0)
 
--- The loop over the slots: what is asked of all `count` of them is what is asked of the `left` ones from offset `at` on.
-pub record Checked (sh : Shape) (m : List ℕ) (count low left least at : ℕ) : Type 0 where
-  pub rest : goodSlots sh count low (drop 24 m) ≡ goodSlots sh left least (drop at m)
-  pub room : at + left * slotSize sh ≤ length m
-
-pub checked-none : (sh : Shape) (m : List ℕ) (count low : ℕ) → 24 + count * slotSize sh ≤ length m → Checked sh m count low count low 24
-checked-none sh m count low h = record { rest = refl; room = h }
-
-module _ {sh : Shape} {m : List ℕ} {count low left least at : ℕ} (k : Checked sh m count low left least at) (more : 0 < left) where
-  checked-step : goodSlots sh count low (drop 24 m)
-      ≡ (goodSlot (sh .cap) least (drop at m) && goodSlots sh (left - 1) (le 8 (drop at m) + 1) (drop (at + slotSize sh) m))
-  unfolding goodSlots
-  checked-step =
-      let e : left ≡ suc (left - 1) = omega arith in
-      k .rest ∙ ap (λ (n : ℕ). goodSlots sh n least (drop at m)) e ∙ rw (drop-drop (slotSize sh) at m)
-
-  pub checked-stop : (g : Bool) → g ≡ goodSlot (sh .cap) least (drop at m) → g ≡ false → false ≡ goodSlots sh count low (drop 24 m)
-  checked-stop g hg e = sym (checked-step ∙ rw (← hg, e))
-
-  pub checked-more : (g : Bool) (p : ℕ) → g ≡ goodSlot (sh .cap) least (drop at m) → g ≡ true → p ≡ le 8 (drop at m)
-      → Checked sh m count low (left - 1) (p + 1) (at + slotSize sh)
-  checked-more g p hg e hp =
-      let l : left ≡ suc (left - 1) = omega arith in
-      let r : at + suc (left - 1) * slotSize sh ≤ length m = rw l at (k .room) in
-      record { rest = checked-step ∙ rw (← hg, e, ← hp); room = omega arith }
-
-module _ {sh : Shape} {m : List ℕ} {count low left least at : ℕ} (k : Checked sh m count low left least at) where
-  pub checked-all : (z : Bool) → left ≤ 0 → z ≡ zeros (length m - at) (drop at m) → z ≡ goodSlots sh count low (drop 24 m)
-  unfolding goodSlots
-  checked-all z h e =
-      let l : left ≡ 0 = omega arith in
-      e ∙ sym (k .rest ∙ ap (λ (n : ℕ). goodSlots sh n least (drop at m)) l ∙ rw (length-drop at m))
+-- a header's last word: the count and the six bytes behind it
+pub header-words : (sh : Shape) (m : List ℕ) (number floor last : ℕ) → number ≡ numberOf m → floor ≡ floorOf m → last ≡ le 8 (drop 16 m) → sh .room < 65536
+    → (leb 1 number && leb number 8 && leb floor limit && leb last (sh .room)) ≡ goodHeader sh m
+unfolding goodHeader
+header-words sh m number floor last en ef el h =
+    rw (en, ef, el, le-two 2 6 16 m, both (sh .room) (countOf m) (le 6 (drop 18 m)) h, le-none 6 (drop 18 m))
+    (sym (and-assoc (leb 1 (numberOf m) && leb (numberOf m) 8 && leb (floorOf m) limit) (leb (countOf m) (sh .room)) (zeros 6 (drop 18 m))))
+  where
+    both : (room a r : ℕ) → room < 65536 → leb (a + 65536 * r) room ≡ (leb a room && leb r 0)
+    both room a r h = go (leb a room) refl (leb r 0) refl
+      where
+        go : (s : Bool) → leb a room ≡ s → (t : Bool) → leb r 0 ≡ t → leb (a + 65536 * r) room ≡ (s && t)
+        go true e true f = le-leb (a + 65536 * r) room (omega (arith, leb-true a room e, leb-true r 0 f))
+        go true e false f = lt-leb (a + 65536 * r) room (omega (arith, leb-false r 0 f))
+        go false e t f = lt-leb (a + 65536 * r) room (omega (arith, leb-false a room e))
 
 -- what a good header says
 pub record HeaderGood (sh : Shape) (m : List ℕ) : Type 0 where

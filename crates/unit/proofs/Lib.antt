@@ -1,6 +1,8 @@
 -- The laws that more than one proof cites.
 pub mod Fields
+pub mod Words
 pub mod Goodness
+pub mod Checking
 pub mod Places
 pub mod Answers
 pub mod Stores

@@ -4,8 +4,7 @@ use mathlib.Core.Bool.{Bool, true, false, cond}
 use mathlib.Core.List.{List, [], _∷_}
 use mathlib.Core.Path.{_≡_, refl, sym, ap, _∙_}
 use native.Mathlib.Omega.{arith}
-use native.Mathlib.Nat.{sub-zero, zero-add, zero-mul, not-suc-le-zero, le-of-suc-le-suc, mul-le-mul-right, le-trans}
-use native.Mathlib.Numerals.{add-one}
+use native.Mathlib.Nat.{zero-mul, not-suc-le-zero, le-of-suc-le-suc, mul-le-mul-right, le-trans}
 use borrow.Author.Tests.{ltb-true, ltb-false, eqb-true, eq-eqb, ne-eqb, lt-ltb, le-ltb}
 use lib.Dec.{ltb, eqb, leb·suc-suc}
 use lib.ListN.{length, getD, take, drop}
@@ -14,7 +13,7 @@ use Rattle.num.specs.Bytes.{le}
 use Rattle.unit.specs.Shape.{Shape, slotSize}
 use Rattle.unit.specs.State.{Slot, nothing, lookup, before}
 use Rattle.unit.specs.Memory.{slotAt, slotsAt, goodSlot, goodSlots, good, decode, placeOf, countOf, floorOf}
-use Rattle.num.proofs.Tests.{left-step, and-both}
+use Rattle.num.proofs.Tests.{and-both}
 use Rattle.unit.proofs.Goodness.{slot-fields, is-good}
 
 pub slots-length : (sh : Shape) (n : ℕ) (xs : List ℕ) → length (slotsAt sh n xs) ≡ n
@@ -27,37 +26,6 @@ pub before-step : (sh : Shape) (n p : ℕ) (xs : List ℕ)
     → before p (slotsAt sh (suc n) xs) ≡ cond (ltb (le 8 xs) p) (suc (before p (slotsAt sh n (drop (slotSize sh) xs)))) 0
 unfolding slotsAt slotAt before
 before-step sh n p xs = refl
-
--- The loop that counts the slots before p: i of them are passed, and the next stands at offset `at`.
-pub record Sought (sh : Shape) (m : List ℕ) (count p i at : ℕ) : Type 0 where
-  pub rest : before p (slotsAt sh count (drop 24 m)) ≡ i + before p (slotsAt sh (count - i) (drop at m))
-  pub place : at ≡ 24 + i * slotSize sh
-  pub bound : i ≤ count
-
-pub sought-none : (sh : Shape) (m : List ℕ) (count p : ℕ) → Sought sh m count p 0 24
-sought-none sh m count p = record { rest = rw (sub-zero, zero-add); place = omega arith; bound = omega arith }
-
-module _ {sh : Shape} {m : List ℕ} {count p i at : ℕ} (k : Sought sh m count p i at) where
-  sought-step : i < count → before p (slotsAt sh count (drop 24 m))
-      ≡ i + cond (ltb (le 8 (drop at m)) p) (suc (before p (slotsAt sh (count - suc i) (drop (at + slotSize sh) m)))) 0
-  sought-step h = k .rest ∙ rw (left-step count i h, before-step sh (count - suc i) p (drop at m), drop-drop)
-
-  pub sought-stop : (q : ℕ) → i < count → q ≡ le 8 (drop at m) → p ≤ q → i ≡ before p (slotsAt sh count (drop 24 m))
-  sought-stop q h e l =
-      let b : p ≤ le 8 (drop at m) = rw e at l in
-      sym (sought-step h ∙ rw (le-ltb _ _ b) (omega arith))
-
-  pub sought-more : (q : ℕ) → i < count → q ≡ le 8 (drop at m) → q < p → Sought sh m count p (i + 1) (at + slotSize sh)
-  sought-more q h e l =
-      let b : le 8 (drop at m) < p = rw e at l in
-      let s = rw (lt-ltb _ _ b) at (sought-step h) in
-      record { rest = rw add-one (omega arith); place = rw (k .place) (omega arith); bound = omega arith }
-
-  pub sought-all : count ≤ i → i ≡ before p (slotsAt sh count (drop 24 m))
-  unfolding slotsAt before
-  sought-all h =
-      let e : count - i ≡ 0 = omega arith in
-      sym (k .rest ∙ rw e (omega arith))
 
 -- ---- what stands there
 
@@ -127,6 +95,86 @@ before-le p (s ∷ ss) = go (ltb (s .position) p) (before-le p ss)
     go : (b : Bool) → before p ss ≤ length ss → cond b (suc (before p ss)) 0 ≤ suc (length ss)
     go true h = omega arith
     go false h = omega arith
+
+-- ---- the search for a place
+
+-- positions rise from the least one on
+good-rising : (sh : Shape) (n low : ℕ) (xs : List ℕ) (k : ℕ) → goodSlots sh n low xs ≡ true → k < n → low ≤ le 8 (drop (k * slotSize sh) xs)
+good-rising sh zero low xs k g h = absurd (not-suc-le-zero h)
+good-rising sh (suc n) low xs zero g h = rw zero-mul (slot-fields (sh .cap) low xs (good-step sh n low xs g .0) .rising)
+good-rising sh (suc n) low xs (suc k) g h =
+    let e : suc k * slotSize sh ≡ slotSize sh + k * slotSize sh = omega arith in
+    let (a, b) = good-step sh n low xs g in
+    let f : low ≤ le 8 xs = slot-fields (sh .cap) low xs a .rising in
+    let r = good-rising sh n (le 8 xs + 1) (drop (slotSize sh) xs) k b (le-of-suc-le-suc h) in
+    rw (e, ← drop-drop (k * slotSize sh) (slotSize sh) xs) (omega arith)
+
+-- a slot at p or behind it does not stand before it
+before-high : (sh : Shape) (n p : ℕ) (xs : List ℕ) (k : ℕ) → k < n → p ≤ le 8 (drop (k * slotSize sh) xs) → before p (slotsAt sh n xs) ≤ k
+before-high sh zero p xs k h l = absurd (not-suc-le-zero h)
+before-high sh (suc n) p xs zero h l =
+    let l0 : p ≤ le 8 xs = rw zero-mul at l in
+    rw (before-step sh n p xs, le-ltb (le 8 xs) p l0) (omega arith)
+before-high sh (suc n) p xs (suc k) h l =
+    let e : suc k * slotSize sh ≡ slotSize sh + k * slotSize sh = omega arith in
+    let r = before-high sh n p (drop (slotSize sh) xs) k (le-of-suc-le-suc h) (rw (e, ← drop-drop (k * slotSize sh) (slotSize sh) xs) at l) in
+    rw (before-step sh n p xs) (go (ltb (le 8 xs) p) r)
+  where
+    go : (b : Bool) → before p (slotsAt sh n (drop (slotSize sh) xs)) ≤ k → cond b (suc (before p (slotsAt sh n (drop (slotSize sh) xs)))) 0 ≤ suc k
+    go true r = omega arith
+    go false r = omega arith
+
+-- and one below p does
+before-low : (sh : Shape) (n low p : ℕ) (xs : List ℕ) (k : ℕ) → goodSlots sh n low xs ≡ true → k < n → le 8 (drop (k * slotSize sh) xs) < p
+    → k < before p (slotsAt sh n xs)
+before-low sh zero low p xs k g h l = absurd (not-suc-le-zero h)
+before-low sh (suc n) low p xs zero g h l =
+    let l0 : le 8 xs < p = rw zero-mul at l in
+    rw (before-step sh n p xs, lt-ltb (le 8 xs) p l0) (omega arith)
+before-low sh (suc n) low p xs (suc k) g h l =
+    let e : suc k * slotSize sh ≡ slotSize sh + k * slotSize sh = omega arith in
+    let b = good-step sh n low xs g .1 in
+    let l1 = rw (e, ← drop-drop (k * slotSize sh) (slotSize sh) xs) at l in
+    let f = good-rising sh n (le 8 xs + 1) (drop (slotSize sh) xs) k b (le-of-suc-le-suc h) in
+    let r = before-low sh n (le 8 xs + 1) p (drop (slotSize sh) xs) k b (le-of-suc-le-suc h) l1 in
+    rw (before-step sh n p xs, lt-ltb (le 8 xs) p (omega arith)) (omega arith)
+
+-- The loop that halves where the place of p may be: from low to high.
+pub record Between (sh : Shape) (m : List ℕ) (count p low high : ℕ) : Type 0 where
+  pub lower : low ≤ before p (slotsAt sh count (drop 24 m))
+  pub upper : before p (slotsAt sh count (drop 24 m)) ≤ high
+  pub bound : high ≤ count
+
+pub between-all : (sh : Shape) (m : List ℕ) (count p : ℕ) → Between sh m count p 0 count
+between-all sh m count p =
+    let b = before-le p (slotsAt sh count (drop 24 m)) in
+    record { lower = omega arith; upper = rw slots-length at b; bound = omega arith }
+
+pub between-wider : {sh : Shape} {m : List ℕ} {count p low high : ℕ} → Between sh m count p low high → (low′ high′ : ℕ) → low′ ≤ low → high ≤ high′ → high′ ≤ count
+    → Between sh m count p low′ high′
+between-wider s low′ high′ a b c = record { lower = omega (arith, s .lower); upper = omega (arith, s .upper); bound = c }
+
+module _ {sh : Shape} {m : List ℕ} {count p low high : ℕ} (s : Between sh m count p low high) (g : good sh m ≡ true) (c : count ≡ countOf m) where
+  between-at : (k at : ℕ) → at ≡ 24 + k * slotSize sh → drop at m ≡ drop (k * slotSize sh) (drop 24 m)
+  between-at k at e = rw (e, ← drop-drop (k * slotSize sh) 24 m)
+
+  pub between-up : (k at q : ℕ) → k < high → at ≡ 24 + k * slotSize sh → q ≡ le 8 (drop at m) → q < p → Between sh m count p (k + 1) high
+  between-up k at q h e eq l =
+      let u = s .bound in
+      let n : k < count = omega arith in
+      let gs = rw (← c) at (is-good sh m g .slots) in
+      let b = before-low sh count (floorOf m) p (drop 24 m) k gs n (rw (eq, between-at k at e) at l) in
+      record { lower = omega arith; upper = s .upper; bound = u }
+
+  pub between-down : (k at q : ℕ) → k < high → at ≡ 24 + k * slotSize sh → q ≡ le 8 (drop at m) → p ≤ q → Between sh m count p low k
+  between-down k at q h e eq l =
+      let u = s .bound in
+      let n : k < count = omega arith in
+      let b = before-high sh count p (drop 24 m) k n (rw (eq, between-at k at e) at l) in
+      record { lower = s .lower; upper = b; bound = omega arith }
+
+  pub between-done : high ≤ low → low ≡ before p (slotsAt sh count (drop 24 m))
+  between-done h = omega (arith, s .lower, s .upper)
 
 -- each used slot is good, from some least position on
 pub good-at : (sh : Shape) (n low : ℕ) (xs : List ℕ) (k : ℕ) → goodSlots sh n low xs ≡ true → k < n

@@ -1,13 +1,19 @@
 // Good memory, and the unit that it holds.
 ghost use mathlib.Core.Path.{_≡_};
-ghost use Prim.Native.Nat.{_+_, _*_, _≤_};
+ghost use Prim.Native.Nat.{_+_, _*_, _/_, _%_, _≤_};
+ghost use lib.Bits.{bitAnd};
+ghost use lib.Dec.{eqb};
 ghost use lib.ListN.{length, drop};
+ghost use Rattle.num.specs.Bytes.{le};
+ghost use Rattle.num.specs.Limits.{limit};
 ghost use Rattle.unit.specs.Shape.{small};
-ghost use Rattle.unit.specs.Memory.{goodFields, goodSlot, goodSlots, goodHeader, good as goodMemory};
+ghost use Rattle.unit.specs.Zeros.{ruler};
+ghost use Rattle.unit.specs.Memory.{goodFields, goodSlots, goodHeader, good as goodMemory};
 use crate::field::number_at;
 use crate::field::zeros_at;
+use crate::store::put_zeros;
+use crate::word::word_at;
 use num::Position;
-use num::bytes::size;
 
 pub struct Unit;
 
@@ -28,65 +34,87 @@ impl Unit {
     pub const SIZE: usize = 6168;
 }
 
-// Whether a slot may have these fields, with a position of at least `low`. `&` and `|` keep it free of branches: no proof file.
-fn good_fields(low: u64, p: u64, kind: u8, len: u8) -> bool
-    ensures { λ r. ⌜ r ≡ goodFields 32 low p kind len ⌝ }
+// Whether a slot may have this second word, of its kind, its length and six zeros, whatever its position. One less and turned by a byte it is the length
+// where the kind is 1, and large otherwise; the other kinds have no length.
+fn good_tag(tag: u64) -> bool
+    ensures { λ r. ⌜ r ≡ goodFields 32 0 0 (tag % 256) (tag / 256) ⌝ }
 {
-    (low <= p)
-        & (p < Position::LIMIT)
-        & (1 <= kind)
-        & (kind <= 3)
-        & (len <= 32)
-        & ((kind == 1) | (len == 0))
+    let t = std::num::wrapping_sub_u64(tag, 1);
+    (t / 256 + t % 256 * 72_057_594_037_927_936 <= 32) | (tag / 2 == 1)
 }
 
-// Whether a good slot stands at `at`, with a position of at least `low`.
-fn good_slot(mem: &[u8], at: usize, low: u64) -> bool
-    requires { ⌜ at + 48 ≤ length (now mem) ⌝ }
-    ensures { λ r. ⌜ r ≡ goodSlot 32 low (drop at (now (mem .entry))) ⌝ }
+// A length that a payload may have, as it is; and any other as 0.
+fn short(len: u64) -> usize
+    ensures { λ r. ⌜ (r ≤ 32) × (len ≤ 32 → r ≡ len) ⌝ }
 {
-    let p = number_at(mem, at, 8);
-    let kind = mem[at + 8];
-    let len = mem[at + 9];
-    if good_fields(low, p, kind, len) {
-        let n = size(len);
-        zeros_at(mem, at + 10, 6) & zeros_at(mem, at + 16 + n, 32 - n)
-    } else {
-        false
-    }
+    if len <= 32 { len as usize } else { 0 }
 }
 
+// What counts a slot that is not good.
+fn fault(good: bool) -> u64
+    ensures { λ r. ⌜ (r ≤ 1) × (eqb r 0 ≡ good) ⌝ }
+{
+    if good { 0 } else { 1 }
+}
+
+// The word at `at`, of which only what stands under the full bytes of the ruler's word at `k` is left.
+fn masked(mem: &[u8], at: usize, full: &[u8], k: usize) -> u64
+    requires { ⌜ (at + 8 ≤ length (now mem)) × (k + 8 ≤ length (now full)) ⌝ }
+    ensures { λ r. ⌜ r ≡ bitAnd (le 8 (drop at (now (mem .entry)))) (le 8 (drop k (now (full .entry)))) ⌝ }
+{
+    word_at(mem, at) & word_at(full, k)
+}
+
+// Whether the header is good. The count and the six zeros are one word: with another byte in it the count is too large.
 fn good_header(mem: &[u8]) -> bool
     requires { ⌜ 24 ≤ length (now mem) ⌝ }
     ensures { λ r. ⌜ r ≡ goodHeader small (now (mem .entry)) ⌝ }
 {
     let number = number_at(mem, 0, 4);
-    let floor = number_at(mem, 8, 8);
-    let count = number_at(mem, 16, 2);
-    (1 <= number)
-        & (number <= 8)
-        & (floor <= Position::LIMIT)
-        & (count <= 128)
-        & zeros_at(mem, 18, 6)
+    (1 <= number) & (number <= 8) & (word_at(mem, 8) <= Position::LIMIT) & (word_at(mem, 16) <= 128)
 }
 
-// Whether `count` good slots stand behind the header, in rising position from `low` on, and zeros after them.
-fn good_slots(mem: &[u8], count: u64, low: u64) -> bool
-    requires { ⌜ (24 + count * 48 ≤ length (now mem)) × (count ≤ 128) ⌝ }
+// Whether `count` good slots stand behind the header, in rising position from `low` on, and zeros after them. No early exit, and a sum for each word of a
+// payload: the compiler brings them together once, and not for each slot. A position that wraps is 0 as the next one's least, and fails.
+fn slots_good(mem: &[u8], count: u64, low: u64, full: &[u8]) -> bool
+    requires { ⌜ (24 + count * 48 ≤ length (now mem)) × (count ≤ 128) × (low ≤ limit) × (now full ≡ ruler) ⌝ }
     ensures { λ r. ⌜ r ≡ goodSlots small count low (drop 24 (now (mem .entry))) ⌝ }
 {
     let mut left = count;
     let mut least = low;
     let mut at: usize = 24;
+    let mut faults: u64 = 0;
+    let mut a: u64 = 0;
+    let mut b: u64 = 0;
+    let mut c: u64 = 0;
+    let mut d: u64 = 0;
     while 0 < left {
-        if !good_slot(mem, at, least) {
-            return false;
-        }
-        least = number_at(mem, at, 8) + 1;
+        let next = std::num::wrapping_add_u64(word_at(mem, at), 1);
+        let tag = word_at(mem, at + 8);
+        let k = 32 - short(tag / 256);
+        faults = faults + fault((least < next) & good_tag(tag));
+        a = a | masked(mem, at + 16, full, k);
+        b = b | masked(mem, at + 24, full, k + 8);
+        c = c | masked(mem, at + 32, full, k + 16);
+        d = d | masked(mem, at + 40, full, k + 24);
+        least = next;
         at += 48;
         left -= 1;
     }
-    zeros_at(mem, at, mem.len() - at)
+    (faults == 0)
+        & ((a == 0) & (b == 0) & (c == 0) & (d == 0))
+        & (least <= Position::LIMIT)
+        & zeros_at(mem, at, mem.len() - at)
+}
+
+// The same, with the ruler that the slots are tested by.
+fn good_slots(mem: &[u8], count: u64, low: u64) -> bool
+    requires { ⌜ (24 + count * 48 ≤ length (now mem)) × (count ≤ 128) × (low ≤ limit) ⌝ }
+    ensures { λ r. ⌜ r ≡ goodSlots small count low (drop 24 (now (mem .entry))) ⌝ }
+{
+    let mut full = [255u8; 64];
+    put_zeros(&mut full, 0, 32);
+    slots_good(mem, count, low, &full)
 }
 
 // Whether a lent memory is good, tested in full.

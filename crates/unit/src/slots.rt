@@ -1,28 +1,35 @@
 // The slots of a good memory, by position.
 ghost use mathlib.Core.Path.{_≡_};
 ghost use mathlib.Core.Bool.{true};
-ghost use Prim.Native.Nat.{_+_, _*_, _≤_};
-ghost use lib.ListN.{length, drop};
+ghost use lib.ListN.{drop};
 ghost use Rattle.unit.specs.Shape.{small};
 ghost use Rattle.unit.specs.State.{before, lookup};
-ghost use Rattle.unit.specs.Memory.{slotsAt, decode, placeOf, good as goodMemory};
+ghost use Rattle.unit.specs.Memory.{slotsAt, decode, placeOf, countOf, good as goodMemory};
 use crate::field::number_at;
+use crate::word::word_at;
 
-// How many of the `count` slots stand before position `p`.
+// How many of the `count` slots stand before position `p`. The last slot first, for a page is mostly written or read at the edge. The slots rise, so that
+// the half in which its place is not can be passed over.
 pub(crate) fn place(mem: &[u8], count: u64, p: u64) -> u64
-    requires { ⌜ (24 + count * 48 ≤ length (now mem)) × (count ≤ 128) ⌝ }
+    requires { ⌜ (goodMemory small (now mem) ≡ true) × (count ≡ countOf (now mem)) ⌝ }
     ensures { λ r. ⌜ r ≡ before p (slotsAt small count (drop 24 (now (mem .entry)))) ⌝ }
 {
-    let mut i: u64 = 0;
-    let mut at: usize = 24;
-    while i < count {
-        if p <= number_at(mem, at, 8) {
-            return i;
-        }
-        at += 48;
-        i += 1;
+    if count == 0 {
+        return 0;
     }
-    i
+    if word_at(mem, 24 + 48 * ((count - 1) as usize)) < p {
+        return count;
+    }
+    let mut low: u64 = 0;
+    let mut size = count;
+    while 1 < size {
+        let half = size / 2;
+        if word_at(mem, 24 + 48 * ((low + half - 1) as usize)) < p {
+            low = low + half;
+        }
+        size = size - half;
+    }
+    low
 }
 
 // Where the slot of a position stands, or would stand, and its kind: 0 where there is none.
@@ -39,7 +46,7 @@ pub(crate) fn find(mem: &[u8], p: u64) -> Found
     let before = place(mem, count, p);
     let at = 24 + 48 * (before as usize);
     if before < count {
-        if number_at(mem, at, 8) == p {
+        if word_at(mem, at) == p {
             return Found {
                 at: at,
                 kind: mem[at + 8],

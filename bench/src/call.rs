@@ -1,0 +1,81 @@
+//! One call, to be made on any side.
+
+use crate::side::Side;
+use std::hint::black_box;
+
+#[derive(Clone, Debug)]
+pub enum Call {
+    Write {
+        epoch: u32,
+        position: u64,
+        kind: u8,
+        data: Vec<u8>,
+    },
+    /// Of these positions, one after the other and over again.
+    Read {
+        epoch: u32,
+        positions: Vec<u64>,
+    },
+    Trim {
+        epoch: u32,
+        position: u64,
+    },
+    Prune {
+        epoch: u32,
+        position: u64,
+    },
+    Seal {
+        epoch: u32,
+    },
+}
+
+/// What a call gives: its answer, and the outputs after it.
+#[derive(Clone, Copy, PartialEq, Eq, Debug)]
+pub struct Seen {
+    pub answer: u8,
+    pub kind: u8,
+    pub start: u64,
+    pub length: u64,
+    pub edge: u64,
+}
+
+/// Before a call: outputs that no call gives.
+pub const UNSEEN: Seen = Seen { answer: 255, kind: 0xEE, start: 0xDEAD_0001, length: 0xDEAD_0002, edge: u64::MAX };
+
+/// A call on one side, to be made on a memory as often as wanted.
+pub type Made<'a> = Box<dyn FnMut(&mut [u8]) -> Seen + 'a>;
+
+impl Call {
+    /// The call on one side, for whatever memory; the compiler knows none of its numbers.
+    pub fn on<'a>(&'a self, side: &'a Side) -> Made<'a> {
+        match *self {
+            Call::Write { epoch, position, kind, ref data } => Box::new(move |mem| {
+                let answer = (side.write)(mem, epoch, black_box(position), kind, black_box(data));
+                Seen { answer, ..UNSEEN }
+            }),
+            Call::Read { epoch, ref positions } => {
+                let mut next = positions.iter().cycle();
+                Box::new(move |mem| {
+                    let mut seen = UNSEEN;
+                    let Seen { kind, start, length, .. } = &mut seen;
+                    let position = *next.next().expect("a position to read");
+                    let answer = (side.read)(mem, epoch, black_box(position), kind, start, length);
+                    Seen { answer, ..seen }
+                })
+            }
+            Call::Trim { epoch, position } => Box::new(move |mem| {
+                let answer = (side.trim)(mem, epoch, black_box(position));
+                Seen { answer, ..UNSEEN }
+            }),
+            Call::Prune { epoch, position } => Box::new(move |mem| {
+                let answer = (side.prune)(mem, epoch, black_box(position));
+                Seen { answer, ..UNSEEN }
+            }),
+            Call::Seal { epoch } => Box::new(move |mem| {
+                let mut seen = UNSEEN;
+                let answer = (side.seal)(mem, black_box(epoch), &mut seen.edge);
+                Seen { answer, ..seen }
+            }),
+        }
+    }
+}

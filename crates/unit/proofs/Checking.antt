@@ -1,0 +1,202 @@
+-- Laws of the test of the used slots: a slot's second word, the rise of positions, and one turn of the loop, which has no early exit.
+use Prim.Native.Nat.{ℕ, zero, suc, _+_, _*_, _-_, _/_, _%_, _^_, _<_, _≤_}
+use mathlib.Core.Bool.{Bool, true, false, _&&_, _||_}
+use mathlib.Core.List.{List}
+use mathlib.Core.Path.{_≡_, refl, sym, ap, _∙_}
+use native.Mathlib.Nat.{zero-add}
+use native.Mathlib.Omega.{arith}
+use borrow.Author.Tests.{leb-true, leb-false, le-leb, ltb-true, lt-ltb, eqb-true, eqb-false, ne-eqb}
+use lib.Bits.{bitOr, bitAnd}
+use lib.Dec.{leb, ltb, eqb, eqb·suc-zero}
+use lib.ListN.{length, drop, length-drop}
+use lib.Seq.{drop-drop}
+use Rattle.num.specs.Bytes.{le}
+use Rattle.num.specs.Limits.{limit}
+use Rattle.num.proofs.Tests.{false-true, and-both, and-false}
+use Rattle.num.proofs.Numbers.{Bytes}
+use Rattle.unit.specs.Zeros.{zeros, ruler}
+use Rattle.unit.specs.Shape.{small}
+use Rattle.unit.specs.Memory.{goodFields, goodSlot, goodSlots}
+use Rattle.unit.proofs.Words.{or-none, rest-words}
+use Rattle.unit.proofs.Goodness.{FieldsGood, fields-good, slot-words}
+
+not-so : (b : Bool) → (b ≡ true → ⊥) → b ≡ false
+not-so true h = absurd (h refl)
+not-so false h = refl
+
+-- ---- a slot's second word
+
+or-true : (b : Bool) → (b || true) ≡ true
+or-true true = refl
+or-true false = refl
+
+pub turned-fits : (t : ℕ) → t < 2 ^ 64 → t / 256 + t % 256 * 72057594037927936 < 2 ^ 64
+turned-fits t h = sum (t / 256) (t % 256) (omega arith) (omega arith)
+  where
+    sum : (a b : ℕ) → a < 72057594037927936 → b < 256 → a + b * 72057594037927936 < 2 ^ 64
+    sum a b h l = omega arith
+
+turned-plain : (tag t : ℕ) → tag ≡ t + 1 → tag % 256 ≡ 1 → tag / 256 ≤ 32 → t / 256 + t % 256 * 72057594037927936 ≤ 32
+turned-plain tag t e k l =
+    let z : t % 256 ≡ 0 = omega arith in
+    let n : t / 256 ≤ 32 = omega arith in
+    rw z (omega arith)
+
+turned-parts : (a b : ℕ) → a + b * 72057594037927936 ≤ 32 → (a ≤ 32) × (b ≡ 0)
+turned-parts a b h = (omega arith, omega arith)
+
+few-next : (tag t : ℕ) → (t + 1) % 2 ^ 64 ≡ tag → t ≤ 8192 → tag ≡ t + 1
+few-next tag t e h = omega arith
+
+plain-next : (tag t : ℕ) → tag ≡ t + 1 → t % 256 ≡ 0 → t / 256 ≤ 32 → (tag % 256 ≡ 1) × (tag / 256 ≤ 32)
+plain-next tag t e z h = (omega arith, omega arith)
+
+few-plain : (t : ℕ) → t % 256 ≡ 0 → t / 256 ≤ 32 → t ≤ 8192
+few-plain t z h = omega arith
+
+turned-back : (tag t : ℕ) → (t + 1) % 2 ^ 64 ≡ tag → t / 256 + t % 256 * 72057594037927936 ≤ 32 → (tag % 256 ≡ 1) × (tag / 256 ≤ 32)
+turned-back tag t e l =
+    let (h, z) = turned-parts (t / 256) (t % 256) l in
+    plain-next tag t (few-next tag t e (few-plain t z h)) z h
+
+-- t is one less than the word, and its low byte is moved to the top
+pub tag-good : (tag t : ℕ) → tag < 2 ^ 64 → t < 2 ^ 64 → (t + 1) % 2 ^ 64 ≡ tag
+    → (leb (t / 256 + t % 256 * 72057594037927936) 32 || eqb (tag / 2) 1) ≡ goodFields 32 0 0 (tag % 256) (tag / 256)
+tag-good tag t hg ht e = go (leb turned 32) refl (eqb (tag / 2) 1) refl
+  where
+    turned : ℕ
+    turned = t / 256 + t % 256 * 72057594037927936
+
+    go : (a : Bool) → leb turned 32 ≡ a → (b : Bool) → eqb (tag / 2) 1 ≡ b → (a || b) ≡ goodFields 32 0 0 (tag % 256) (tag / 256)
+    go true h b g =
+        let (k, n) = turned-back tag t e (leb-true turned 32 h) in
+        sym (rw (k, le-leb (tag / 256) 32 n))
+    go false h true g =
+        let l = eqb-true (tag / 2) 1 g in
+        let n : tag / 256 ≡ 0 = omega arith in
+        let k : 1 ≤ tag % 256 = omega arith in
+        let m : tag % 256 ≤ 3 = omega arith in
+        sym (rw (n, le-leb 1 (tag % 256) k, le-leb (tag % 256) 3 m, or-true))
+    go false h false g = sym (not-so _ (λ y. none (fields-good 32 0 0 (tag % 256) (tag / 256) y)))
+      where
+        none : FieldsGood 32 0 0 (tag % 256) (tag / 256) → ⊥
+        none f = pick (eqb (tag % 256) 1) refl
+          where
+            pick : (b : Bool) → eqb (tag % 256) 1 ≡ b → ⊥
+            pick true q =
+                let k = eqb-true (tag % 256) 1 q in
+                let n : tag ≡ t + 1 = omega arith in
+                false-true (sym h ∙ le-leb turned 32 (turned-plain tag t n k (f .fits)))
+            pick false q =
+                let d = eqb-false (tag % 256) 1 q in
+                let l = eqb-true (tag / 256) 0 (rw q at (f .plain)) in
+                let x = eqb-false (tag / 2) 1 g in
+                omega (arith, f .least, f .most)
+
+fields-apart : (cap low p kind len : ℕ) → goodFields cap low p kind len ≡ ((leb low p && ltb p limit) && goodFields cap 0 0 kind len)
+fields-apart cap low p kind len = apart (leb low p && ltb p limit) _ _ _ _
+  where
+    apart : (x a b c d : Bool) → (x && a && b && c && d) ≡ (x && (a && b && c && d))
+    apart true a b c d = refl
+    apart false a b c d = refl
+
+-- ---- the sums
+
+and-swap : (a b c d : Bool) → ((a && b) && (c && d)) ≡ ((a && c) && (b && d))
+and-swap true true c d = refl
+and-swap true false c d = sym (and-false c)
+and-swap false b c d = refl
+
+sums-apart : (a b c d w x y z : ℕ)
+    → (eqb (bitOr a w) 0 && eqb (bitOr b x) 0 && eqb (bitOr c y) 0 && eqb (bitOr d z) 0)
+    ≡ ((eqb a 0 && eqb b 0 && eqb c 0 && eqb d 0) && (eqb w 0 && eqb x 0 && eqb y 0 && eqb z 0))
+sums-apart a b c d w x y z =
+    rw (or-none a w, or-none b x, or-none c y, or-none d z) (four (eqb a 0) (eqb b 0) (eqb c 0) (eqb d 0) (eqb w 0) (eqb x 0) (eqb y 0) (eqb z 0))
+  where
+    four : (a b c d w x y z : Bool) → ((a && w) && (b && x) && (c && y) && (d && z)) ≡ ((a && b && c && d) && (w && x && y && z))
+    four a b c d w x y z =
+        ap (λ (t : Bool). t && (c && y) && (d && z)) (and-swap a w b x) ∙ ap (λ (t : Bool). t && (d && z)) (and-swap (a && b) (w && x) c y)
+        ∙ and-swap (a && b && c) (w && x && y) d z
+
+faults-apart : (n f : ℕ) → eqb (n + f) 0 ≡ (eqb n 0 && eqb f 0)
+faults-apart zero f = rw zero-add
+faults-apart (suc n) f = ne-eqb (suc n + f) 0 (omega arith) ∙ sym (rw (eqb·suc-zero n))
+
+-- ---- the rise of positions
+
+-- The bound is tested once, behind the last slot, and each position against the one before: here for one slot, of position p, of which F, S, T and Z say
+-- what is asked beside the position, and `rest` what is asked of the slots behind it.
+module _ (least p next : ℕ) (hp : p < 2 ^ 64) (hn : next ≡ (p + 1) % 2 ^ 64) (rest : ℕ → Bool) where
+  rises : (F S T Z q : Bool) → (leb least p && ltb p limit) ≡ q
+      → ((F && S && leb least limit) && (((q && T) && Z) && rest (p + 1))) ≡ ((F && (ltb least next && T)) && (S && Z) && leb next limit && rest next)
+  rises F S T Z true e =
+      let (u, v) = and-both (leb least p) (ltb p limit) e in
+      let l = leb-true least p u in
+      let g = ltb-true p limit v in
+      let n : next ≡ p + 1 = omega arith in
+      rw (le-leb least limit (omega arith), lt-ltb least next (omega arith), le-leb next limit (omega arith), n) (both F S T Z (rest (p + 1)))
+    where
+      both : (F S T Z R : Bool) → ((F && S && true) && ((T && Z) && R)) ≡ ((F && T) && (S && Z) && true && R)
+      both true true true true R = refl
+      both true true true false R = refl
+      both true true false Z R = refl
+      both true false true Z R = refl
+      both true false false Z R = refl
+      both false S T Z R = refl
+  rises F S T Z false e = and-false (F && S && leb least limit) ∙ sym (none F (S && Z) T (rest next) (ltb least next) (leb next limit) refl refl)
+    where
+      none : (F S T R u v : Bool) → ltb least next ≡ u → leb next limit ≡ v → ((F && (u && T)) && S && v && R) ≡ false
+      none F S T R true true hu hv =
+          let l = ltb-true least next hu in
+          let g = leb-true next limit hv in
+          absurd (false-true (sym e ∙ rw (le-leb least p (omega arith), lt-ltb p limit (omega arith))))
+      none F S T R true false hu hv = rw and-false
+      none F S T R false v hu hv = rw and-false
+
+-- ---- the loop
+
+-- What is asked of all `count` slots is that the faults and sums so far are none, and what is asked of the `left` slots from offset `at` on.
+pub record Checked (m : List ℕ) (count low left least at faults a b c d : ℕ) : Type 0 where
+  pub so : goodSlots small count low (drop 24 m)
+      ≡ ((eqb faults 0 && (eqb a 0 && eqb b 0 && eqb c 0 && eqb d 0) && leb least limit) && goodSlots small left least (drop at m))
+  pub room : at + left * 48 ≤ length m
+  pub few : faults + left ≤ count
+
+pub checked-none : (m : List ℕ) (count low : ℕ) → low ≤ limit → 24 + count * 48 ≤ length m → Checked m count low count low 24 0 0 0 0 0
+checked-none m count low l h = record { so = rw (le-leb low limit l); room = h; few = omega arith }
+
+module _ {m : List ℕ} {count low left least at faults a b c d : ℕ} (k : Checked m count low left least at faults a b c d) where
+  slots-step : 0 < left → (p : ℕ) → p ≡ le 8 (drop at m)
+      → goodSlots small left least (drop at m) ≡ (goodSlot 32 least (drop at m) && goodSlots small (left - 1) (p + 1) (drop (at + 48) m))
+  unfolding goodSlots
+  slots-step h p e =
+      let l : left ≡ suc (left - 1) = omega arith in
+      ap (λ (n : ℕ). goodSlots small n least (drop at m)) l ∙ rw (drop-drop 48 at m, e)
+
+  pub checked-more : 0 < left → Bytes m → (full : List ℕ) → full ≡ ruler → (p next tag n f w x y z : ℕ) (t : Bool) → p < 2 ^ 64 → p ≡ le 8 (drop at m)
+      → next ≡ (p + 1) % 2 ^ 64 → tag ≡ le 8 (drop (at + 8) m) → n ≤ 32 → (tag / 256 ≤ 32 → n ≡ tag / 256) → t ≡ goodFields 32 0 0 (tag % 256) (tag / 256)
+      → f ≤ 1 → eqb f 0 ≡ (ltb least next && t)
+      → w ≡ bitAnd (le 8 (drop (at + 16) m)) (le 8 (drop (32 - n) full)) → x ≡ bitAnd (le 8 (drop (at + 24) m)) (le 8 (drop (32 - n + 8) full))
+      → y ≡ bitAnd (le 8 (drop (at + 32) m)) (le 8 (drop (32 - n + 16) full)) → z ≡ bitAnd (le 8 (drop (at + 40) m)) (le 8 (drop (32 - n + 24) full))
+      → Checked m count low (left - 1) next (at + 48) (faults + f) (bitOr a w) (bitOr b x) (bitOr c y) (bitOr d z)
+  checked-more h by full r p next tag n f w x y z t hp ep en et hn hl eh hf ef ew ex ey ez =
+      let l : left ≡ suc (left - 1) = omega arith in
+      let room : at + suc (left - 1) * 48 ≤ length m = rw l at (k .room) in
+      let up : (i j : ℕ) → at + i + j ≡ at + (i + j) = λ i j. omega arith in
+      let words = rest-words n (at + 16) m full by hn r w x y z ew (rw (up 16 8) ex) (rw (up 16 16) ey) (rw (up 16 24) ez) in
+      let slot = slot-words 32 least at m by (omega arith) (omega arith) p tag n _ _ ep et (sym (fields-apart 32 least p (tag % 256) (tag / 256))) hl words in
+      record {
+        so = k .so ∙ rw (slots-step h p ep, ← slot, ← eh, faults-apart faults f, ef, sums-apart a b c d w x y z)
+            (rises least p next hp en (λ (q : ℕ). goodSlots small (left - 1) q (drop (at + 48) m)) (eqb faults 0) (eqb a 0 && eqb b 0 && eqb c 0 && eqb d 0) t
+            (eqb w 0 && eqb x 0 && eqb y 0 && eqb z 0) (leb least p && ltb p limit) refl);
+        room = omega arith;
+        few = omega arith;
+      }
+
+  pub checked-all : (z : Bool) → left ≤ 0 → z ≡ zeros (length m - at) (drop at m)
+      → (eqb faults 0 && (eqb a 0 && eqb b 0 && eqb c 0 && eqb d 0) && leb least limit && z) ≡ goodSlots small count low (drop 24 m)
+  unfolding goodSlots
+  checked-all z h e =
+      let l : left ≡ 0 = omega arith in
+      let g : goodSlots small left least (drop at m) ≡ z = ap (λ (n : ℕ). goodSlots small n least (drop at m)) l ∙ rw (length-drop at m, e) in
+      sym (k .so ∙ rw g)

@@ -1,0 +1,154 @@
+-- `memory::slots_good` meets its contract. The invariant and its steps are `Checking`'s `Checked`.
+use mathlib.Core.Path.{_≡_, ap, _∙_}
+use borrow.Author.Needs.{needs}
+use native.Mathlib.Omega.{arith}
+use lib.ListN.{length}
+use Rattle.unit.proofs.Words.{ruler-length}
+use Rattle.unit.proofs.Checking.{Checked, checked-none, checked-more, checked-all}
+use Rattle.unit.proofs.memory.slots_good.Statement.{statement}
+use Rattle.unit.proofs.memory.slots_good.Tie as tie
+use Rattle.unit.proofs.memory.slots_good.Reads as reads
+use Rattle.unit.proofs.memory.slots_good.Lts as lts
+use Rattle.std.proofs.num.wrapping_add_u64.Reads as wrapping-add-u64-reads
+use Rattle.unit.proofs.field.zeros_at.Reads as zeros-at-reads
+use Rattle.unit.proofs.memory.fault.Reads as fault-reads
+use Rattle.unit.proofs.memory.good_tag.Reads as good-tag-reads
+use Rattle.unit.proofs.memory.masked.Reads as masked-reads
+use Rattle.unit.proofs.memory.short.Reads as short-reads
+use Rattle.unit.proofs.word.word_at.Reads as word-at-reads
+
+abbrev Inv-loop : tie.InvT-loop
+Inv-loop mem count low full left₀ least₀ at₀ faults₀ a₀ b₀ c₀ d₀ left least at faults a b c d = Checked mem count low left least at faults a b c d
+
+abbrev μ-loop : tie.MeasureT-loop
+μ-loop mem count low full left₀ least₀ at₀ faults₀ a₀ b₀ c₀ d₀ left least at faults a b c d = left
+
+ruled : (c : tie.Start Inv-loop μ-loop) → length (c .args .full .now) ≡ 64
+ruled c = ap length (c .pre .3) ∙ ruler-length
+
+loop-holds : tie.Need-loop-holds Inv-loop μ-loop
+loop-holds c = checked-none _ _ _ (omega arith) (omega arith)
+
+word-at-requires : tie.Need-word-at-requires Inv-loop μ-loop
+word-at-requires c κs = omega arith
+
+wrapping-add-u64-requires : tie.Need-wrapping-add-u64-requires Inv-loop μ-loop
+wrapping-add-u64-requires c κs = search needs
+
+add-word-at : tie.Need-add-word-at Inv-loop μ-loop
+add-word-at c = omega arith
+
+word-at-requires-2 : tie.Need-word-at-requires-2 Inv-loop μ-loop
+word-at-requires-2 c κs = omega arith
+
+short-requires : tie.Need-short-requires Inv-loop μ-loop
+short-requires c κs = search needs
+
+sub-k : tie.Need-sub-k Inv-loop μ-loop
+sub-k c = omega arith
+
+good-tag-requires : tie.Need-good-tag-requires Inv-loop μ-loop
+good-tag-requires c κs = search needs
+
+fault-requires : tie.Need-fault-requires Inv-loop μ-loop
+fault-requires c κs = search needs
+
+add-faults : tie.Need-add-faults Inv-loop μ-loop
+add-faults c = omega arith
+
+add-masked : tie.Need-add-masked Inv-loop μ-loop
+add-masked c = omega arith
+
+masked-requires : tie.Need-masked-requires Inv-loop μ-loop
+masked-requires c κs = (omega arith, omega (arith, ruled (c .before .before .before .before .before .before .before .before .before .before)))
+
+add-masked-2 : tie.Need-add-masked-2 Inv-loop μ-loop
+add-masked-2 c = omega arith
+
+add-masked-3 : tie.Need-add-masked-3 Inv-loop μ-loop
+add-masked-3 c = omega arith
+
+masked-requires-2 : tie.Need-masked-requires-2 Inv-loop μ-loop
+masked-requires-2 c κs = (omega arith, omega (arith, ruled (c .before .before .before .before .before .before .before .before .before .before .before)))
+
+add-masked-4 : tie.Need-add-masked-4 Inv-loop μ-loop
+add-masked-4 c = omega arith
+
+add-masked-5 : tie.Need-add-masked-5 Inv-loop μ-loop
+add-masked-5 c = omega arith
+
+masked-requires-3 : tie.Need-masked-requires-3 Inv-loop μ-loop
+masked-requires-3 c κs = (omega arith, omega (arith, ruled (c .before .before .before .before .before .before .before .before .before .before .before .before)))
+
+add-masked-6 : tie.Need-add-masked-6 Inv-loop μ-loop
+add-masked-6 c = omega arith
+
+add-masked-7 : tie.Need-add-masked-7 Inv-loop μ-loop
+add-masked-7 c = omega arith
+
+masked-requires-4 : tie.Need-masked-requires-4 Inv-loop μ-loop
+masked-requires-4 c κs = (omega arith, omega (arith, ruled (c .before .before .before .before .before .before .before .before .before .before .before .before .before)))
+
+add-at : tie.Need-add-at Inv-loop μ-loop
+add-at c = omega arith
+
+sub-left : tie.Need-sub-left Inv-loop μ-loop
+sub-left c = omega arith
+
+loop-less : tie.Need-loop-less Inv-loop μ-loop
+loop-less c = omega arith
+
+loop-again : tie.Need-loop-again Inv-loop μ-loop
+loop-again c =
+    let f = c .before .before .before .before in
+    let w = f .before .before .before in
+    let l = w .before .before .before .before in
+    let s = l .before .before .before in
+    checked-more (l .loop .inv) (omega arith) (l .before .before .shared-slice-known .given) _ (s .pre .3) _ _ _ _ _ _ _ _ _ _ (omega arith)
+    (w .before .before .word-at .ensures) (w .before .wrapping-add-u64 .ensures) (w .word-at2 .ensures)
+    (f .before .before .short .ensures .0) (f .before .before .short .ensures .1) (f .before .good-tag .ensures) (f .fault .ensures .0) (f .fault .ensures .1)
+    (c .before .before .before .masked .ensures) (c .before .before .masked2 .ensures) (c .before .masked3 .ensures) (c .masked4 .ensures)
+
+sub-zeros-at : tie.Need-sub-zeros-at Inv-loop μ-loop
+sub-zeros-at c = omega arith
+
+zeros-at-requires : tie.Need-zeros-at-requires Inv-loop μ-loop
+zeros-at-requires c κs = omega arith
+
+returns : tie.Need-returns Inv-loop μ-loop
+returns c = checked-all (c .before .before .loop .inv) _ (omega arith) (c .zeros-at .ensures)
+
+pub slots-good-spec : {M : Type 1} → statement M
+slots-good-spec =
+    tie.close
+    (tie.spec
+    Inv-loop
+    μ-loop
+    loop-holds
+    word-at-requires
+    wrapping-add-u64-requires
+    add-word-at
+    word-at-requires-2
+    short-requires
+    sub-k
+    good-tag-requires
+    fault-requires
+    add-faults
+    add-masked
+    masked-requires
+    add-masked-2
+    add-masked-3
+    masked-requires-2
+    add-masked-4
+    add-masked-5
+    masked-requires-3
+    add-masked-6
+    add-masked-7
+    masked-requires-4
+    add-at
+    sub-left
+    loop-less
+    loop-again
+    sub-zeros-at
+    zeros-at-requires
+    returns)
