@@ -1,6 +1,6 @@
-//! The proved library's C functions, over slices: all that is unsafe stands here.
+//! The proved library's C functions, over slices: all that is unsafe stands here, but for the calls on another stack (`stack`).
 
-mod c {
+pub(crate) mod c {
     extern "C" {
         pub fn unit_fresh(mem: *mut u8, len: usize, number: u32) -> u8;
         pub fn unit_write(

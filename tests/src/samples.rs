@@ -1,4 +1,4 @@
-//! Units to try calls on: fresh, with pages of each kind, full, pruned, ended, sealed for good.
+//! Units to try calls on: fresh, with pages of each kind, half full, full, pruned, ended, sealed for good.
 
 use crate::call::{Call, Outputs};
 use crate::unit::{Page, Unit, POSITIONS, SLOTS};
@@ -26,6 +26,7 @@ pub fn units() -> Vec<(&'static str, Unit)> {
         ("fresh", unit(1, 0, 0, [])),
         ("one empty page", unit(2, 0, 0, [(0, Page::Data(Vec::new()))])),
         ("pages of each kind", unit(3, 1, 5, [(5, Page::Junk), (7, full_page()), (8, Page::Trimmed), (300, mixed(1))])),
+        ("half full", unit(4, 1, 3, (0..all / 2).map(|i| (3 + 2 * i, mixed(i))))),
         ("nearly full", unit(4, 6, 0, (0..all - 1).map(|i| (2 * i, mixed(i))))),
         ("full of data", unit(5, 0, 0, (0..all).map(|i| (i, full_page())))),
         ("full and mixed", unit(6, 2, 10, (0..all).map(|i| (10 + 3 * i, mixed(i))))),
