@@ -1,9 +1,9 @@
 /*
- * desk.h: layouts of the shared log, for tests on a desk.
+ * desk.h: layouts and plays of the shared log, for tests on a desk.
  *
  * Link with libdesk.a, which `rt staticlib desk` writes to target/staticlib. Nothing is kept between calls. Every call answers
  * one number of enum desk_answer. A call that answers anything but DESK_ANSWER_FINE has changed nothing: no byte of out, and
- * *set and *written keep what they held.
+ * *set, *lines and *written keep what they held.
  *
  * A layout is its bytes: epoch (4, little-endian), then units, sets and ranges, each section after its one-byte count. No pointer
  * may be NULL, also where its length is 0, and what is written lies apart from all else.
@@ -21,6 +21,10 @@ extern "C" {
 /* The bytes of the largest layout: room enough for every plan. */
 #define DESK_LAYOUT 167
 
+/* The bytes of the longest play, and of the longest line that a step shows. */
+#define DESK_PLAY 65536
+#define DESK_LINE 256
+
 enum desk_answer {
     DESK_ANSWER_FINE = 0,
     DESK_ANSWER_POSITION = 2,      /* the position is 2^40 or more */
@@ -30,7 +34,8 @@ enum desk_answer {
     DESK_ANSWER_SUCCESSOR = 12,    /* not a lawful successor */
     DESK_ANSWER_SET_LOST = 13,     /* dropping would empty a set */
     DESK_ANSWER_LAYOUT_FULL = 14,  /* more than 16 sets or 8 ranges */
-    DESK_ANSWER_EPOCHS_SPENT = 15  /* the held epoch is 2^32 - 1 */
+    DESK_ANSWER_EPOCHS_SPENT = 15, /* the held epoch is 2^32 - 1 */
+    DESK_ANSWER_PLAY = 22          /* no play: it does not read, starts no fresh yard, or is longer than DESK_PLAY */
 };
 
 /* Whether these are the bytes of a good layout. Answers: FINE, LAYOUT. */
@@ -51,6 +56,17 @@ uint8_t layout_offer(const uint8_t *held, size_t held_len, const uint8_t *offere
  */
 uint8_t layout_plan(const uint8_t *held, size_t held_len, const uint8_t *drops, size_t drops_len, const uint8_t *sets,
                     size_t sets_len, uint64_t edge, uint8_t *out, size_t out_len, uint64_t *written);
+
+/*
+ * Runs a play (docs/PLAY.md has its bytes and its lines) from its fresh yard, and writes the lines of its steps from number from
+ * on, as many whole ones as fit into out: *lines of them, in *written bytes at the front of out. The first step has number 1, and
+ * 0 is read like 1. With DESK_LINE bytes of out at least one line fits; *lines is 0 where no step is left. Nothing is kept between
+ * calls: for the lines behind, call again with from + *lines. A call has the whole yard on its stack; its eight memories alone are
+ * 49,344 bytes.
+ * Answers: PLAY, FINE.
+ */
+uint8_t play_lines(const uint8_t *file, size_t len, uint32_t from, uint8_t *out, size_t out_len, uint32_t *lines,
+                   uint64_t *written);
 
 #ifdef __cplusplus
 }

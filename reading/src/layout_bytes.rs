@@ -1,5 +1,6 @@
 //! A layout as bytes: sections in fixed order, each after its one-byte count.
 
+use crate::bytes::Reader;
 use crate::layout::{Layout, Range};
 
 pub fn encode(layout: &Layout) -> Vec<u8> {
@@ -20,42 +21,17 @@ pub fn encode(layout: &Layout) -> Vec<u8> {
     bytes
 }
 
-struct Reader<'a> {
-    left: &'a [u8],
-}
-
-impl<'a> Reader<'a> {
-    fn bytes(&mut self, n: usize) -> Option<&'a [u8]> {
-        if n > self.left.len() {
-            return None;
-        }
-        let (front, left) = self.left.split_at(n);
-        self.left = left;
-        Some(front)
-    }
-
-    fn byte(&mut self) -> Option<u8> {
-        Some(self.bytes(1)?[0])
-    }
-
-    fn counted(&mut self) -> Option<Vec<u8>> {
-        let n = self.byte()?;
-        Some(self.bytes(n.into())?.to_vec())
-    }
-
-    fn range(&mut self) -> Option<Range> {
-        let start = u64::from_le_bytes(self.bytes(8)?.try_into().ok()?);
-        Some(Range { start, uses: self.byte()? })
-    }
+fn range(reader: &mut Reader) -> Option<Range> {
+    Some(Range { start: reader.number(8)?, uses: reader.byte()? })
 }
 
 /// The good layout that these bytes are; none where they are not one.
 pub fn decode(bytes: &[u8]) -> Option<Layout> {
     let mut reader = Reader { left: bytes };
-    let epoch = u32::from_le_bytes(reader.bytes(4)?.try_into().ok()?);
+    let epoch = reader.number(4)? as u32;
     let units = reader.counted()?;
     let sets = (0..reader.byte()?).map(|_| reader.counted()).collect::<Option<Vec<_>>>()?;
-    let ranges = (0..reader.byte()?).map(|_| reader.range()).collect::<Option<Vec<_>>>()?;
+    let ranges = (0..reader.byte()?).map(|_| range(&mut reader)).collect::<Option<Vec<_>>>()?;
     let layout = Layout { epoch, sets, ranges };
     let named: Vec<u8> = layout.units().into_iter().collect();
     (reader.left.is_empty() && units == named && layout.good()).then_some(layout)

@@ -6,6 +6,7 @@ pub mod no;
 pub mod memory;
 pub mod unit;
 
+pub mod bytes;
 pub mod layout;
 pub mod layout_bytes;
 pub mod plan;
@@ -26,6 +27,11 @@ pub mod demand;
 pub mod invariant;
 pub mod last_sentence;
 
+pub mod book;
+pub mod play;
+pub mod tell;
+pub mod words;
+
 pub mod draw_job;
 pub mod draw_step;
 pub mod lehmer;
@@ -33,6 +39,7 @@ pub mod mood;
 
 pub mod census;
 pub mod compare;
-pub mod digest;
-pub mod print;
+pub mod damage;
+pub mod draw_play;
+pub mod odd;
 pub mod run;

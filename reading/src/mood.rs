@@ -2,7 +2,7 @@
 
 use crate::layout::{Layout, Range, Set, UNITS};
 use crate::lehmer::Raw;
-use crate::yard::Yard;
+use crate::odd::Odd;
 
 /// How often letters are doubled and answers lost (of 64), whether the log's last positions are asked for,
 /// whether appends prevail, and whether units stop.
@@ -13,14 +13,6 @@ pub struct Mood {
     pub tall: bool,
     pub busy: bool,
     pub mortal: bool,
-}
-
-pub enum Age {
-    Young,
-    /// Clients near their last life and request numbers.
-    OldClients,
-    /// A held layout near the last epoch.
-    OldEpochs,
 }
 
 /// A set from three raw numbers: rising units, the gaps 1 or 2.
@@ -69,36 +61,11 @@ pub fn draw_mood(raw: &Raw) -> Mood {
     }
 }
 
-pub fn draw_age(raw: &Raw) -> Age {
+/// How old a run's yard is, where it is not fresh.
+pub fn draw_age(raw: &Raw) -> Option<Odd> {
     match raw.of(8, 16) {
-        0 => Age::OldClients,
-        1 => Age::OldEpochs,
-        _ => Age::Young,
-    }
-}
-
-impl Age {
-    pub const LIFE: u16 = 65_534;
-    pub const USED: u32 = u32::MAX - 60;
-    pub const EPOCH: u32 = u32::MAX - 4;
-
-    /// Makes a fresh yard that old.
-    pub fn apply(&self, yard: &mut Yard) {
-        match self {
-            Age::Young => {}
-            Age::OldClients => {
-                for client in &mut yard.clients {
-                    client.life = Age::LIFE;
-                    client.used = Age::USED;
-                }
-            }
-            Age::OldEpochs => {
-                for unit in &mut yard.units {
-                    unit.seal(Age::EPOCH - 1).expect("sealed at 0");
-                }
-                yard.sequencer.start(Age::EPOCH, 0).expect("above 1");
-                yard.held.epoch = Age::EPOCH;
-            }
-        }
+        0 => Some(Odd::OldClients),
+        1 => Some(Odd::OldEpochs),
+        _ => None,
     }
 }

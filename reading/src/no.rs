@@ -23,6 +23,8 @@ pub const NOBODY: No = 17;
 pub const BUSY: No = 18;
 pub const NUMBERS_SPENT: No = 19;
 pub const UNKNOWN: No = 20;
+/// A file that is no play.
+pub const PLAY: No = 22;
 
 /// Positions lie below it; a prune and a sequencer's count may stand at it.
 pub const LIMIT: u64 = 1 << 40;

@@ -5,6 +5,7 @@ use crate::layout::Layout;
 use crate::lehmer::Lehmer;
 use crate::mood::{draw_age, draw_layout, draw_mood, Mood};
 use crate::no::No;
+use crate::odd::Odd;
 use crate::shortcut::Shortcut;
 use crate::yard::{Ended, Step, Yard};
 
@@ -25,17 +26,28 @@ pub struct Taken {
 }
 
 impl Run {
-    /// The layout drawn, and the run where the layout makes a fresh yard.
-    pub fn start(seed: u32, shortcut: Option<Shortcut>) -> (Layout, Result<Run, No>) {
+    fn make(seed: u32, shortcut: Option<Shortcut>, aged: bool) -> (Layout, Result<Run, No>) {
         let mut generator = Lehmer::seeded(seed);
         let raw = generator.raw();
         let layout = draw_layout(&raw);
         let run = Yard::fresh(layout.clone()).map(|mut yard| {
-            draw_age(&raw).apply(&mut yard);
+            if let (true, Some(age)) = (aged, draw_age(&raw)) {
+                age.apply(&mut yard);
+            }
             yard.shortcut = shortcut;
             Run { generator, mood: draw_mood(&raw), memo: Memo::default(), number: 0, yard }
         });
         (layout, run)
+    }
+
+    /// The layout drawn, and the run where the layout makes a fresh yard, which is as old as it is drawn.
+    pub fn start(seed: u32, shortcut: Option<Shortcut>) -> (Layout, Result<Run, No>) {
+        Run::make(seed, shortcut, true)
+    }
+
+    /// The same with the fresh yard as it is, as a play has it.
+    pub fn fresh(seed: u32) -> (Layout, Result<Run, No>) {
+        Run::make(seed, None, false)
     }
 
     pub fn step(&mut self) -> Taken {
@@ -48,22 +60,15 @@ impl Run {
     }
 }
 
-/// As much as is read of the input.
-pub const INPUT: u64 = 65_536;
-
-/// A number of 1 to 9 digits.
-fn number(word: &[u8]) -> Option<u32> {
-    let digits = (1..=9).contains(&word.len()) && word.iter().all(u8::is_ascii_digit);
-    digits.then(|| word.iter().fold(0, |n, digit| n * 10 + u32::from(digit - b'0')))
+/// How old the yard of a seed's run is, where its layout makes one and it is not fresh.
+pub fn age(seed: u32) -> Option<Odd> {
+    let raw = Lehmer::seeded(seed).raw();
+    draw_age(&raw).filter(|_| Yard::fresh(draw_layout(&raw)).is_ok())
 }
 
-/// A line of the input: a seed and a number of steps, one space between.
-pub fn parse(line: &[u8]) -> Option<(u32, u32)> {
-    let space = line.iter().position(|byte| *byte == b' ')?;
-    Some((number(&line[..space])?, number(&line[space + 1..])?))
-}
-
-/// The lines of the input; the last one may lack its line end.
-pub fn lines(input: &[u8]) -> impl Iterator<Item = &[u8]> {
-    input.strip_suffix(b"\n").unwrap_or(input).split(|byte| *byte == b'\n').filter(move |_| !input.is_empty())
+/// Seeds and numbers of steps: a line for each run, as seeds.txt has them; none where a line is of another form.
+pub fn seeds(text: &str) -> Option<Vec<(u32, u32)>> {
+    let number = |word: &str| word.parse().ok();
+    let line = |line: &str| line.split_once(' ').and_then(|(seed, steps)| Some((number(seed)?, number(steps)?)));
+    text.lines().map(line).collect()
 }

@@ -1,93 +1,160 @@
-//! The program `runs` over the proved yard, compared with the reading; and that the comparison bites.
+//! The programs `book` and `odd` and the reading show the same lines. `tools/native-program NAME` makes a program for the machine at hand.
 
-use reading::compare::{compare, compare_program, Asked};
-use reading::print::print_run;
-use reading::run::{lines, parse};
+use reading::book::{self, lines};
+use reading::compare::{compare, said, Difference};
+use reading::damage::{changed, cut, lengthened, nearly_play, play_of, RandomBytes};
+use reading::draw_play::{draw_old_play, draw_play};
+use reading::lehmer::Lehmer;
+use reading::odd::{self, Odd};
+use reading::play::{self, Play};
+use reading::run::{age, seeds};
+use reading::shortcut::Shortcut;
+use reading::yard::Yard;
+use std::collections::BTreeSet;
 use std::fs;
-use std::io::Write;
 use std::path::{Path, PathBuf};
-use std::process::{Command, Stdio};
 
 const PACKAGE: &str = env!("CARGO_MANIFEST_DIR");
 
-fn seeds() -> Vec<Asked> {
-    let input = fs::read(Path::new(PACKAGE).join("seeds.txt")).expect("the seeds");
-    lines(&input).map(|line| parse(line).expect("a seed and a number")).collect()
+fn asked() -> Vec<(u32, u32)> {
+    let text = fs::read_to_string(Path::new(PACKAGE).join("seeds.txt")).expect("the seeds");
+    seeds(&text).expect("seeds and numbers of steps")
 }
 
-fn program() -> PathBuf {
-    let program = Path::new(PACKAGE).join("../target/native/runs");
-    assert!(program.is_file(), "there is no {}: tools/native-program runs makes it", program.display());
+fn program(name: &str) -> PathBuf {
+    let program = Path::new(PACKAGE).join("../target/native").join(name);
+    assert!(program.is_file(), "there is no {}: tools/native-program {name} makes it", program.display());
     program
 }
 
+/// The plays of plays/, each with its name.
+fn plays() -> Vec<(String, Vec<u8>)> {
+    let paths =
+        fs::read_dir(Path::new(PACKAGE).join("../plays")).expect("the plays").map(|entry| entry.unwrap().path());
+    let is_play = |path: &PathBuf| path.extension().is_some_and(|ending| ending == "play");
+    paths.filter(is_play).map(|path| (path.display().to_string(), fs::read(path).expect("a play"))).collect()
+}
+
+/// Panics where the program shows other lines of the input than these.
+fn agree(name: &str, what: &str, input: &[u8], read: &[String]) {
+    let printed = said(&program(name), input).expect("the program runs");
+    compare(read, &printed).unwrap_or_else(|found| panic!("{name}, {what}: {found}"));
+}
+
+fn agree_on_book(what: &str, file: &[u8]) {
+    agree("book", what, file, &book::text(file));
+}
+
+fn agree_on_odd(what: &str, odd: Odd, file: &[u8]) -> Vec<String> {
+    let input = [&[odd.byte()][..], file].concat();
+    let read = odd::text(&input);
+    agree("odd", &format!("{odd:?}, {what}"), &input, &read);
+    read
+}
+
 #[test]
-fn the_program_prints_what_the_reading_does() {
-    let compared = compare_program(&program(), &seeds()).expect("the program runs");
-    let compared = compared.unwrap_or_else(|difference| panic!("{difference}"));
-    println!("steps compared: {compared}");
-    assert!(compared >= 200_000, "only {compared} steps");
+fn runs_from_fresh_yards() {
+    let mut compared = 0;
+    for (seed, steps) in asked() {
+        let play = draw_play(seed, steps);
+        agree_on_book(&format!("seed {seed}"), &play.write().expect("it fits"));
+        compared += play.steps.len();
+    }
+    println!("steps compared: {compared} from fresh yards");
+    assert!(compared >= 248_000, "only {compared} steps");
 }
 
-/// What a program prints of an input, of which it may leave a part unread.
-fn said(program: &Path, input: &[u8]) -> String {
-    let mut child = Command::new(program).stdin(Stdio::piped()).stdout(Stdio::piped()).spawn().expect("it starts");
-    let _ = child.stdin.take().expect("it is piped").write_all(input);
-    let output = child.wait_with_output().expect("it ends");
-    assert!(output.status.success(), "{}", output.status);
-    String::from_utf8(output.stdout).expect("plain letters")
+/// Answers and outcomes' numbers of lines.
+fn numbers(lines: &[String]) -> BTreeSet<u8> {
+    let word = |line: &str, i: usize| line.split(' ').nth(i).and_then(|word| word.trim().parse().ok());
+    lines.iter().flat_map(|line| word(line, 1).into_iter().chain(word(line, 4))).collect()
 }
 
 #[test]
-fn inputs_of_any_form() {
-    let few = ["", "7 28", "7 0\n29 5\n3 1", "000000007 1\n", "999999999 2\n", "29 999999999\n"];
-    let bad = ["\n", "7", "7 ", " 7 1\n", "7  1\n", "7 1 \n", "7 1\n\n", "7 1\r\n", "1234567890 1\n", "7 1234567890\n"];
-    let worse =
-        ["+7 1\n", "7 1x\n", "7 -1\n", "7\t1\n", "x 1\n", "7 1\0", "7 \n1 1\n", "\u{fffd} 1\n", "7:1\n", "/ 1\n"];
-    for text in few.into_iter().chain(bad).chain(worse) {
-        let read = said(Path::new(env!("CARGO_BIN_EXE_reading")), text.as_bytes());
-        assert_eq!(said(&program(), text.as_bytes()), read, "{text:?}");
-        assert_eq!(read.ends_with("bad\n"), !few.contains(&text), "{text:?}");
+fn runs_of_old_yards() {
+    let mut compared = 0;
+    let mut met = BTreeSet::new();
+    for (seed, steps) in asked() {
+        let Some(odd) = age(seed) else { continue };
+        let play = draw_old_play(seed, steps);
+        met.append(&mut numbers(&agree_on_odd(&format!("seed {seed}"), odd, &play.write().expect("it fits"))));
+        compared += play.steps.len();
     }
+    println!("steps compared: {compared} of old yards");
+    assert!(compared >= 28_000, "only {compared} steps");
+    assert!(met.contains(&15) && met.contains(&19), "only {met:?}");
 }
 
-/// Seed 29 makes no yard, so its runs are one line each.
 #[test]
-fn an_input_that_is_too_long() {
-    for length in [65_535, 65_536, 65_537, 65_538, 65_539, 65_540, 70_000] {
-        let input: Vec<u8> = b"29 1\n".iter().copied().cycle().take(length).collect();
-        let read = said(Path::new(env!("CARGO_BIN_EXE_reading")), &input);
-        assert_eq!(said(&program(), &input), read, "{length} bytes");
+fn the_plays_in_their_fresh_yards_and_in_odd_ones() {
+    let mut met = BTreeSet::new();
+    for (name, file) in plays() {
+        agree_on_book(&name, &file);
+        met.extend(Odd::ALL.into_iter().flat_map(|odd| numbers(&agree_on_odd(&name, odd, &file))));
     }
+    assert!(met.contains(&1) && met.contains(&12), "only {met:?}");
 }
 
-/// What the reading itself prints of two runs.
-fn printed(runs: &[Asked]) -> String {
-    let mut out = Vec::new();
-    for (seed, steps) in runs {
-        print_run(&mut out, *seed, *steps).expect("a vector takes all");
+#[test]
+fn files_that_are_hardly_plays() {
+    let file = draw_play(7, 12).write().expect("it fits");
+    let changed = (0..file.len()).flat_map(|at| changed(&file, at).take(2));
+    for damaged in cut(&file).chain(lengthened(&file)).chain(changed) {
+        agree_on_book("seed 7, damaged", &damaged);
     }
-    String::from_utf8(out).expect("plain letters")
+    for length in [play::BYTES - 1, play::BYTES, play::BYTES + 1, play::BYTES + 2, 70_000] {
+        agree_on_book("a long file", &play_of(length));
+    }
+    for more in [1, 2, 100, play::BYTES] {
+        agree_on_book("the longest play, and more", &[play_of(play::BYTES), vec![12; more]].concat());
+    }
+    let mut chance = Lehmer::seeded(3);
+    for _ in 0..300 {
+        agree_on_book("a random file", &nearly_play(&mut chance));
+    }
+    for file in (RandomBytes { chance: Lehmer::seeded(4), left: 1_000_000 }) {
+        agree_on_book("random bytes", &file);
+    }
+    assert_eq!(said(&program("odd"), &[]).expect("it runs"), "22\n");
+    for byte in [0, 8, 255] {
+        assert_eq!(said(&program("odd"), &[&[byte][..], &file].concat()).expect("it runs"), "22\n");
+    }
 }
 
 #[test]
 fn one_sign_or_line_is_a_difference() {
-    let runs = [(7, 28), (2, 40)];
-    let text = printed(&runs);
-    let found = |text: &str| compare(&mut text.as_bytes(), &runs).expect("bytes can be read");
-    assert_eq!(found(&text), Ok(68));
-    for (at, line) in text.split_inclusive('\n').enumerate() {
-        let other: String = text
-            .split_inclusive('\n')
-            .enumerate()
-            .map(|(i, same)| if i == at { same.replacen(' ', "  ", 1) } else { same.into() })
-            .collect();
-        let seed = if at < 30 { 7 } else { 2 };
-        assert_eq!(
-            found(&other).map_err(|difference| (difference.asked.0, difference.read)),
-            Err((seed, line.trim_end().into()))
-        );
+    let file = draw_play(7, 28).write().expect("it fits");
+    let read = book::text(&file);
+    let text = read.concat();
+    assert_eq!(compare(&read, &text), Ok(()));
+    for (at, line) in read.iter().enumerate() {
+        let mut other = read.clone();
+        other[at] = line.replacen(' ', "  ", 1);
+        let found = Difference { read: line.clone(), printed: other[at].clone() };
+        assert_eq!(compare(&read, &other.concat()), Err(found));
+        other.remove(at);
+        assert!(compare(&read, &other.concat()).is_err(), "line {at} is missing");
     }
-    assert_eq!(found(&text[..text.len() - 1]).map_err(|difference| difference.asked.0), Err(2));
-    assert_eq!(found(&format!("{text}more")).map_err(|difference| difference.asked.0), Err(2));
+    assert!(compare(&read, &text[..text.len() - 1]).is_err());
+    assert!(compare(&read, &format!("{text}more")).is_err());
+}
+
+/// The lines of a play by a yard that takes the shortcut.
+fn ruined(play: &Play, shortcut: Shortcut) -> Vec<String> {
+    let mut yard = Yard::fresh(play.layout.clone()).expect("it has steps");
+    yard.shortcut = Some(shortcut);
+    lines(&play.steps, |step| yard.step(step))
+}
+
+/// All but the one that is a reader's belief and changes no answer.
+#[test]
+fn each_shortcut_shows_in_the_lines() {
+    for shortcut in Shortcut::ALL.into_iter().filter(|shortcut| *shortcut != Shortcut::BelieveOldTail) {
+        let plays =
+            asked().into_iter().map(|(seed, steps)| draw_play(seed, steps)).filter(|play| !play.steps.is_empty());
+        let shown = plays.map(|play| (book::text(&play.write().expect("it fits")), ruined(&play, shortcut)));
+        let differ = shown.filter(|(right, wrong)| right != wrong).count();
+        println!("{shortcut:?} shows in {differ} of the plays");
+        assert!(differ > 0, "{shortcut:?} shows nowhere");
+    }
 }

@@ -1,4 +1,5 @@
-// Layouts for tests on a desk: numbers and byte slices. A slice is a pointer and then a length.
+// Layouts and plays for tests on a desk: numbers and byte slices. A slice is a pointer and then a length.
+ghost use Rattle.play.specs.Shown.{IsShown};
 ghost use Rattle.desk.specs.Told.{IsGoodTold, IsSetTold, IsOfferTold, IsPlanTold};
 
 mod made;
@@ -11,6 +12,7 @@ use made::make;
 use num::Position;
 use num::answer::Answer;
 use num::answer::pick;
+use play::show_lines;
 
 #[no_mangle]
 pub extern "C" fn layout_good(bytes: &[u8]) -> u8
@@ -69,4 +71,18 @@ pub extern "C" fn layout_plan(
         *written = wrote.count as u64;
     }
     answer
+}
+
+// Lines of a play, from number `from` on, go to the front of `out`. On a refusal `out`, `lines` and `written` keep what they held.
+#[no_mangle]
+pub extern "C" fn play_lines(
+    file: &[u8],
+    from: u32,
+    out: &mut [u8],
+    lines: &mut u32,
+    written: &mut u64,
+) -> u8
+    ensures { λ r. ⌜ IsShown (now (file .entry)) from (now (out .entry)) (now (lines .entry)) (now (written .entry)) r (now (out .exit)) (now (lines .exit)) (now (written .exit)) ⌝ }
+{
+    show_lines(file, from, out, lines, written)
 }

@@ -23,7 +23,7 @@ use Rattle.layout.proofs.Padding.{length-padded, padded-at, padded-four
 
 -- ---- a set and a range
 
-byte-behind : (b : List ℕ) (at : ℕ) → getD (drop at b) 0 0 ≡ getD b at 0
+pub byte-behind : (b : List ℕ) (at : ℕ) → getD (drop at b) 0 0 ≡ getD b at 0
 byte-behind b at = getD-drop at b 0 0 ∙ rw add-zero
 
 unit-behind : (b : List ℕ) (at n j : ℕ) → getD (padded n 0 (drop 1 (drop at b))) j 0 ≡ cond (ltb j n) (getD b (at + (1 + j)) 0) 0
@@ -38,7 +38,7 @@ chain-read b at n p q r s en ep eq er es =
     ∙ rw (unit-behind b at n 0, unit-behind b at n 1, unit-behind b at n 2, unit-behind b at n 3, ep, eq, er, es) in
     sym (rw (m, length-padded n 0 (drop 1 (drop at b)), us))
 
-number-behind : (w at : ℕ) (b : List ℕ) → 0 < w → numberAt w at b ≡ numberAt w 0 (drop at b)
+pub number-behind : (w at : ℕ) (b : List ℕ) → 0 < w → numberAt w at b ≡ numberAt w 0 (drop at b)
 unfolding numberAt
 number-behind w at b h =
     let t : leb (at + w) (length b) ≡ leb (0 + w) (length (drop at b)) = same-test _ _

@@ -23,7 +23,7 @@ use Rattle.layout.proofs.Same.{same-eq, same-self}
 
 -- ---- sets
 
-padded-exact : (us ys : List ℕ) → padded (length us) 0 (us ++ ys) ≡ us
+pub padded-exact : (us ys : List ℕ) → padded (length us) 0 (us ++ ys) ≡ us
 unfolding padded
 padded-exact [] ys = refl
 padded-exact (u ∷ us) ys = ap {B = List ℕ} (λ r. u ∷ r) (padded-exact us ys)
@@ -35,7 +35,7 @@ set-step : (n : ℕ) (us ys : List ℕ) → setsAt (suc n) (counted us ++ ys) �
 unfolding setsAt
 set-step n us ys = rw (padded-exact us ys, past-set us ys)
 
-sets-back : (ss : List (List ℕ)) (ys : List ℕ) → setsAt (length ss) (setsBytes ss ++ ys) ≡ ss
+pub sets-back : (ss : List (List ℕ)) (ys : List ℕ) → setsAt (length ss) (setsBytes ss ++ ys) ≡ ss
 unfolding setsBytes setsAt
 sets-back [] ys = refl
 sets-back (us ∷ ss) ys =
@@ -54,7 +54,7 @@ past-back (us ∷ ss) ys =
 
 -- ---- numbers and ranges
 
-number-back : (w n : ℕ) (ys : List ℕ) → w ≤ 8 → n < 256 ^ w → numberAt w 0 (leBytes w n ++ ys) ≡ n
+pub number-back : (w n : ℕ) (ys : List ℕ) → w ≤ 8 → n < 256 ^ w → numberAt w 0 (leBytes w n ++ ys) ≡ n
 number-back w n ys h s =
     let room : 0 + w ≤ length (leBytes w n ++ ys) = rw (length-append (leBytes w n) ys, le-length w n) (omega arith) in
     number-within w 0 (leBytes w n ++ ys) h room ∙ le-put w n ys s

@@ -23,14 +23,14 @@ use Rattle.layout.proofs.Same.{same-eq, same-self}
 
 -- ---- one set more
 
-sets-left : (b : List ℕ) (n i past t : ℕ) (c : Chain) → i < n → c ≡ chainOf (setFront (drop past b)) → t ≡ c .count
+pub sets-left : (b : List ℕ) (n i past t : ℕ) (c : Chain) → i < n → c ≡ chainOf (setFront (drop past b)) → t ≡ c .count
     → setsAt (n - i) (drop past b) ≡ setFront (drop past b) ∷ setsAt (n - (i + 1)) (drop (past + (1 + t)) b)
 unfolding setsAt
 sets-left b n i past t c h e et =
     let next : drop (1 + getD (drop past b) 0 0) (drop past b) ≡ drop (past + (1 + t)) b = rw et (chain-next b past c e .1) in
     rw (left-step n i h, next, add-one i)
 
-sets-over : (b : List ℕ) (n i past : ℕ) → n ≤ i → setsAt (n - i) (drop past b) ≡ []
+pub sets-over : (b : List ℕ) (n i past : ℕ) → n ≤ i → setsAt (n - i) (drop past b) ≡ []
 unfolding setsAt
 sets-over b n i past h =
     let z : n - i ≡ 0 = omega arith in

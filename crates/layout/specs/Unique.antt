@@ -3,6 +3,7 @@ use Prim.Native.Nat.{ℕ}
 use mathlib.Core.Bool.{Bool}
 use mathlib.Core.List.{List}
 use mathlib.Core.Path.{_≡_}
+use lib.ListN.{getD}
 use Rattle.num.specs.Unique.{once}
 use Rattle.layout.specs.declared.Layout.{Layout}
 use Rattle.layout.specs.Value.{blank, goodValue, layOf}
@@ -29,6 +30,10 @@ is-good-once l r s p q = once p q
 -- read_layout
 pub read-layout-once : (b : List ℕ) (a a′ : ℕ) (l l′ : Layout) → LayoutRead b a l → LayoutRead b a′ l′ → (a ≡ a′) × (l ≡ l′)
 read-layout-once b a a′ l l′ p q = (once (p .answer-is) (q .answer-is), once (p .layout-is) (q .layout-is))
+
+-- byte_at
+pub byte-at-once : (b : List ℕ) (at : ℕ) {r q : ℕ} → r ≡ getD b at 0 → q ≡ getD b at 0 → r ≡ q
+byte-at-once b at e f = once e f
 
 -- write_layout
 pub write-layout-once : (l : Layout) (before : List ℕ) (a a′ n n′ : ℕ) (m m′ : List ℕ)

@@ -20,7 +20,7 @@ use num::bytes::number_at;
 use num::bytes::size;
 
 // The byte at `at`; 0 past the end.
-pub(crate) fn byte_at(b: &[u8], at: usize) -> u8
+pub fn byte_at(b: &[u8], at: usize) -> u8
     ensures { λ r. ⌜ r ≡ getD (now (b .entry)) at 0 ⌝ }
 {
     if at < b.len() { b[at] } else { 0 }

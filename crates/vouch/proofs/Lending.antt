@@ -1,29 +1,43 @@
+-- A run starts at what making a fresh yard leaves (`lent-first`), and goes from what one step leaves to the next (`lent-next`).
 -- No step of a run is refused for what it is lent, and the yard that is lent is the run's: `lends`.
 -- Rests on Coming, Numbered and the rule's laws.
 use mathlib.Core.Path.{_≡_, refl, sym, ap, subst, _∙_}
 use mathlib.Core.Bool.{true, not, _||_}
 use Prim.Native.Nat.{ℕ, _+_, _-_, _<_}
 use native.Mathlib.Omega.{arith}
-use lib.ListN.{getD}
+use mathlib.Core.List.{List}
+use lib.ListN.{length, getD}
 use Rattle.layout.specs.declared.Layout.{Layout}
 use Rattle.layout.specs.Value.{goodValue}
 use Rattle.unit.specs.Memory.{good}
 use Rattle.unit.specs.Unit.{freshUnit}
+use Rattle.sequencer.specs.declared.Sequencer.{Sequencer}
 use Rattle.client.specs.declared.Client.{Client}
 use Rattle.client.specs.declared.Stage.{Stage}
 use Rattle.client.specs.declared.Stage.the-variants.{Idle, Fetching, Drawing, Writing, Reading, Filling, Looking, Trimming, Pruning, Sealing, Offering, Starting}
 use Rattle.client.specs.Client.{fresh}
+use Rattle.rule.specs.declared.Letter.{Letter}
 use Rattle.rule.specs.World.{unitAt, clientAt}
 use Rattle.rule.specs.Lent.{Lent, Outcomes, fetched, lentNumber, seen, laid, left, done, steps}
-use Rattle.rule.specs.Fresh.{freshWorld, freshLent}
+use Rattle.rule.specs.Fresh.{freshWorld, freshLent, freshNumberOf, freshNumber, makes}
 use Rattle.rule.proofs.Leaving.{Fit, Told, Lendable, Room, all-from, left-room, left-seen, left-number}
 use Rattle.history.specs.History.{History}
 use Rattle.vouch.specs.Runs.{Move, Moves, result, world}
 use Rattle.vouch.specs.Runs.Moves.{none, _▸_}
-use Rattle.vouch.specs.Lending.{lent, Lends}
+use Rattle.vouch.specs.Lending.{lent, stepped, Lends}
 use Rattle.vouch.proofs.Meaning.{StageOk}
 use Rattle.vouch.proofs.Coming.{come}
 use Rattle.vouch.proofs.Numbered.{tidy}
+
+-- ---- from move to move
+
+pub lent-first : (l : Layout) (s : Sequencer) (table : List Letter) (m : List ℕ) → freshNumberOf l (length table) (length m) ≡ 0 → makes l s table m ≡ lent l none
+unfolding makes freshNumber lent
+lent-first l s table m fine = rw fine
+
+pub lent-next : (l : Layout) (ms : Moves) (m : Move) → lent l (ms ▸ m) ≡ stepped l ms m .lent
+unfolding lent
+lent-next l ms m = refl
 
 -- ---- clients
 
@@ -114,4 +128,5 @@ module _ (l : Layout) (good-layout : goodValue l ≡ true) (first : l .epoch .0 
         answer-is = λ m. ap (λ (o : Outcomes). o .stepped .answer) (steps-are ms m is);
         who-is = λ m. ap (λ (o : Outcomes). o .stepped .who) (steps-are ms m is);
         outcome-is = λ m. ap (λ (o : Outcomes). o .stepped .outcome) (steps-are ms m is);
+        yard-is = λ m. ap (λ (o : Outcomes). o .stepped .yard) (steps-are ms m is) ∙ sym (ap (λ (o : Outcomes). o .lent .yard) (steps-are ms m is));
       }

@@ -23,3 +23,5 @@ pub record Lends (l : Layout) (ms : Moves) : Type 0 where
   pub answer-is : (m : Move) → stepped l ms m .stepped .answer ≡ result (world l ms) m .answer
   pub who-is : (m : Move) → stepped l ms m .stepped .who ≡ result (world l ms) m .who
   pub outcome-is : (m : Move) → stepped l ms m .stepped .outcome ≡ result (world l ms) m .outcome
+  -- the yard that a step hands back is the one that is lent next
+  pub yard-is : (m : Move) → stepped l ms m .stepped .yard ≡ stepped l ms m .lent .yard

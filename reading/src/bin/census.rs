@@ -1,27 +1,36 @@
-//! Reads the same input as `reading`; prints what occurs in the runs.
+//! Reads seeds and numbers of steps from standard input; prints what occurs in the runs: in those from a fresh yard, and with
+//! the word `old` in those whose yard is drawn old.
 
 use reading::census::Census;
-use reading::run::{lines, parse, Run, INPUT};
+use reading::odd::Odd;
+use reading::run::{age, seeds, Run};
+use std::env;
 use std::io::{self, Read};
 
+fn count(census: &mut Census, seed: u32, steps: u32, odd: Option<Odd>) {
+    let (_, run) = if odd.is_some() { Run::start(seed, None) } else { Run::fresh(seed) };
+    let Ok(mut run) = run else {
+        return census.refused_run();
+    };
+    let first = run.yard.held.epoch;
+    for _ in 0..steps {
+        let taken = run.step();
+        census.step(&taken, &run.yard);
+    }
+    census.end(first, &run.yard);
+}
+
 fn main() -> io::Result<()> {
-    let mut input = Vec::new();
-    io::stdin().lock().take(INPUT).read_to_end(&mut input)?;
+    let mut input = String::new();
+    io::stdin().lock().read_to_string(&mut input)?;
+    let old = env::args().any(|word| word == "old");
     let mut census = Census::default();
-    for line in lines(&input) {
-        let Some((seed, steps)) = parse(line) else {
-            break;
-        };
-        let (_, Ok(mut run)) = Run::start(seed, None) else {
-            census.refused_run();
-            continue;
-        };
-        let first = run.yard.held.epoch;
-        for _ in 0..steps {
-            let taken = run.step();
-            census.step(&taken, &run.yard);
+    for (seed, steps) in seeds(&input).ok_or_else(|| io::Error::other("a line is no seed and number of steps"))? {
+        match (old, age(seed)) {
+            (true, None) => {}
+            (true, odd) => count(&mut census, seed, steps, odd),
+            (false, _) => count(&mut census, seed, steps, None),
         }
-        census.end(first, &run.yard);
     }
     print!("{census}");
     Ok(())

@@ -1,0 +1,22 @@
+-- Two lines, letter by letter.
+use mathlib.Core.List.{[], _∷_}
+use mathlib.Core.Path.{_≡_, refl}
+use lib.ListN.{replicate}
+use Rattle.client.specs.declared.Outcome.{Outcome}
+use Rattle.line.specs.Text.{digits, decimal, hexDigit, hexByte, hexBytes, hexText, word}
+use Rattle.line.specs.Line.{whoText, pageText, endText, lineOf}
+
+-- a read of position 41 that was shown three bytes, in epoch 305
+abbrev pub threeBytes : Outcome
+threeBytes = record { number = 0; position = record { 0 = 41 }; epoch = record { 0 = 305 }; page = record { kind = 1; len = 3; bytes = 10 ∷ 176 ∷ 255 ∷ replicate 29 0 } }
+
+-- "12 18": the twelfth step was answered 18, and nothing ended
+pub short-line : (o : Outcome) → lineOf 12 18 0 o ≡ 49 ∷ 50 ∷ 32 ∷ 49 ∷ 56 ∷ 10 ∷ []
+unfolding lineOf word decimal digits
+short-line o = refl
+
+-- "7 0 : 2 0 41 305 1 0ab0ff"
+pub long-line : lineOf 7 0 2 threeBytes
+    ≡ 55 ∷ 32 ∷ 48 ∷ 32 ∷ 58 ∷ 32 ∷ 50 ∷ 32 ∷ 48 ∷ 32 ∷ 52 ∷ 49 ∷ 32 ∷ 51 ∷ 48 ∷ 53 ∷ 32 ∷ 49 ∷ 32 ∷ 48 ∷ 97 ∷ 98 ∷ 48 ∷ 102 ∷ 102 ∷ 10 ∷ []
+unfolding lineOf endText whoText pageText word decimal digits hexText hexBytes hexByte hexDigit
+long-line = refl

@@ -1,0 +1,4 @@
+pub mod Text
+pub mod Put
+pub mod Line
+pub mod Unique

@@ -1,0 +1,101 @@
+// Runs a play from a fresh yard that is made odd first: what no play from a fresh yard can reach. A byte names the oddity, and the play follows it.
+use crate::make::made_odd;
+use kept::Kept;
+use kept::KeptStep;
+use kept::fresh_kept;
+use kept::step_kept;
+use libc::STDIN_FILENO;
+use line::Line;
+use line::put_line;
+use rule::Yard;
+use say::text;
+use script::judge::Judged;
+use script::judge::judge;
+use script::step::step_at;
+
+mod make;
+
+// Prints the first bytes, as many as there are.
+fn say_front(words: &[u8], size: usize) {
+    if size <= words.len() {
+        text(&words[..size]);
+    }
+}
+
+// Prints the line of step `n`, which is put together in `words`.
+fn say_line(words: &mut [u8], n: u32, t: KeptStep) {
+    let stepped = t.stepped;
+    let outcome = stepped.outcome;
+    let size = put_line(words, 0, n, stepped.answer, stepped.who, outcome);
+    say_front(words, size);
+}
+
+// The yard between two steps, and where the next one stands.
+struct Going {
+    pub kept: Kept,
+    pub at: usize,
+}
+
+// The yard after a step.
+fn after(t: KeptStep, at: usize) -> Going {
+    let stepped = t.stepped;
+    let yard = stepped.yard;
+    let sequencer = t.sequencer;
+    let table = t.table;
+    let kept = Kept {
+        yard,
+        sequencer,
+        table,
+    };
+    Going { kept, at }
+}
+
+// Takes the step `n` and prints its line. The remainders change nothing: they spare an invariant.
+fn goes(going: Going, file: &[u8], n: u32, units: &mut [u8], words: &mut [u8]) -> Going {
+    let kept = going.kept;
+    let at = going.at % Judged::SIZE;
+    let got = step_at(file, at);
+    let s = got.step;
+    let job = got.job;
+    let t = step_kept(kept, units, s, job);
+    say_line(words, n, t);
+    after(t, at + got.size % Judged::SIZE)
+}
+
+// So many steps.
+fn steps(mut going: Going, file: &[u8], count: u32, units: &mut [u8], words: &mut [u8]) {
+    let mut n: u32 = 0;
+    while n < count {
+        n += 1;
+        going = goes(going, file, n, units, words);
+    }
+}
+
+// The play, or 22 where it is none or the oddity has no such name.
+fn run(odd: u8, file: &[u8]) {
+    let judged = judge(file);
+    if (judged.answer != 0) | (odd == 0) | (7 < odd) {
+        text(b"22\n");
+        return;
+    }
+    let layout = judged.layout;
+    let mut units = [0u8; Yard::SIZE];
+    let made = fresh_kept(layout, &mut units);
+    let kept = made_odd(made, &mut units, odd);
+    let going = Going {
+        kept,
+        at: judged.first,
+    };
+    let mut words = [0u8; Line::ROOM];
+    steps(going, file, judged.count, &mut units, &mut words);
+}
+
+fn main() {
+    let mut input = io::large_buffer();
+    let n = io::read_full(STDIN_FILENO, &mut input);
+    if 0 < n {
+        run(input[0], &input[1..n]);
+    } else {
+        run(0, b"");
+    }
+}

@@ -1,0 +1,142 @@
+// A fresh yard made odd: its clients or its epochs near their last numbers, or something lent that no step ever leaves, or a letter that no client sends.
+use client::Ask;
+use client::Client;
+use client::Page;
+use client::Stamp;
+use kept::Kept;
+use kept::KeptMade;
+use layout::Chain;
+use layout::Layout;
+use num::Epoch;
+use num::Position;
+use num::Request;
+use rule::Body;
+use rule::Letter;
+use rule::Yard;
+use sequencer::Sequencer;
+use sequencer::start_step;
+
+// 1: near their last life and their last request number.
+fn old_clients() -> [Client; 4] {
+    let used = Request(4_294_967_235);
+    let mut client = Client::fresh();
+    client.life = 65_534;
+    client.used = used;
+    [client; 4]
+}
+
+// 2: every unit is sealed near the last epoch.
+fn seal_all(units: &mut [u8]) {
+    if units.len() < Yard::SIZE {
+        return;
+    }
+    let mut i: usize = 0;
+    while i < Yard::UNITS {
+        let start = i * 6168;
+        let end = start + 6168;
+        unit::seal::seal(&mut units[start..end], Epoch(4_294_967_290));
+        i += 1;
+    }
+}
+
+// 2: the sequencer is started there.
+fn old_sequencer(s: Sequencer, odd: u8) -> Sequencer {
+    if odd == 2 {
+        let started = start_step(s, Epoch(4_294_967_291), Position(0));
+        return started.after;
+    }
+    s
+}
+
+// 2: the held layout is of that epoch. 5: it has no sets.
+fn odd_layout(mut held: Layout, odd: u8) -> Layout {
+    if odd == 2 {
+        let epoch = Epoch(4_294_967_291);
+        held.epoch = epoch;
+    }
+    if odd == 5 {
+        held.set_count = 0;
+    }
+    held
+}
+
+// 3: a spare byte in the header of unit 3. 4: its memory bears the number 4.
+fn spoil(units: &mut [u8], odd: u8) {
+    if units.len() < Yard::SIZE {
+        return;
+    }
+    match odd {
+        2 => seal_all(units),
+        3 => units[12_356] = 1,
+        4 => units[12_336] = 4,
+        _ => {}
+    }
+}
+
+// 6: a count above the table. 7: one letter, see `offer`.
+fn odd_count(count: u8, odd: u8) -> u8 {
+    match odd {
+        6 => 33,
+        7 => 1,
+        _ => count,
+    }
+}
+
+// 7: client 1 offers, under its first number, a layout in which the first set is unit 8 alone.
+fn offer(mut layout: Layout) -> Letter {
+    let epoch = Epoch(2);
+    layout.epoch = epoch;
+    layout.sets[0] = Chain {
+        count: 1,
+        units: [8, 0, 0, 0],
+    };
+    let stamp = Stamp {
+        client: 1,
+        life: 1,
+        number: Request(1),
+    };
+    let page = Page::blank();
+    Letter {
+        stamp,
+        body: Body::Asks(Ask::Offer),
+        page,
+        layout,
+    }
+}
+
+fn odd_table(mut table: [Letter; 32], held: Layout, odd: u8) -> [Letter; 32] {
+    if odd == 7 {
+        let letter = offer(held);
+        table[0] = letter;
+    }
+    table
+}
+
+fn odd_yard(mut yard: Yard, odd: u8) -> Yard {
+    let held = yard.held;
+    let next = odd_layout(held, odd);
+    yard.held = next;
+    yard.count = odd_count(yard.count, odd);
+    if odd == 1 {
+        let clients = old_clients();
+        yard.clients = clients;
+    }
+    yard
+}
+
+// The fresh yard made odd, as the number says.
+pub(crate) fn made_odd(made: KeptMade, units: &mut [u8], odd: u8) -> Kept {
+    let mut kept = made.kept;
+    let yard = kept.yard;
+    let held = yard.held;
+    let sequencer = kept.sequencer;
+    let table = kept.table;
+    let letters = odd_table(table, held, odd);
+    let next = old_sequencer(sequencer, odd);
+    let odd_one = odd_yard(yard, odd);
+    spoil(units, odd);
+    kept.yard = odd_one;
+    kept.sequencer = next;
+    kept.table = letters;
+    kept
+}

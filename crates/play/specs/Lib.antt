@@ -1,0 +1,5 @@
+pub mod Fit
+pub mod Text
+pub mod Shown
+pub mod Going
+pub mod Unique

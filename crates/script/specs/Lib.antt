@@ -1,0 +1,5 @@
+pub mod Cue
+pub mod Steps
+pub mod Play
+pub mod Put
+pub mod Unique

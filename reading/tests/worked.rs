@@ -1,0 +1,42 @@
+//! The worked example of docs/PLAY.md is plays/worked: its words, its bytes and its lines.
+
+use reading::words;
+use std::fs;
+use std::path::Path;
+
+fn file(name: &str) -> Vec<u8> {
+    fs::read(Path::new(env!("CARGO_MANIFEST_DIR")).join("..").join(name)).expect("a file of the repository")
+}
+
+/// The indented blocks behind the heading of the worked example.
+fn blocks() -> Vec<Vec<String>> {
+    let page = String::from_utf8(file("docs/PLAY.md")).expect("plain letters");
+    let (_, part) = page.split_once("## A worked example\n").expect("there is one");
+    let mut blocks = vec![vec![]];
+    for line in part.lines().take_while(|line| !line.starts_with("## ")) {
+        match line.strip_prefix("    ") {
+            Some(line) => blocks.last_mut().expect("one is begun").push(line.to_string()),
+            None if blocks.last().is_some_and(Vec::is_empty) => {}
+            None => blocks.push(vec![]),
+        }
+    }
+    blocks.into_iter().filter(|block| !block.is_empty()).collect()
+}
+
+/// The bytes of a line, up to its words.
+fn bytes(line: &str) -> Vec<u8> {
+    let digits = line.split("   ").next().expect("a first part").replace(' ', "");
+    (0..digits.len() / 2).map(|i| u8::from_str_radix(&digits[2 * i..2 * i + 2], 16).expect("hex")).collect()
+}
+
+#[test]
+fn the_page_tells_the_play() {
+    let blocks = blocks();
+    let [words, hex, lines] = &blocks[..] else { panic!("words, bytes and lines, and no others: {blocks:#?}") };
+    let play = file("plays/worked.play");
+    assert_eq!(words::read(&words.join("\n")).expect("a play").write().as_ref(), Some(&play));
+    assert_eq!(hex.iter().flat_map(|line| bytes(line)).collect::<Vec<u8>>(), play);
+    assert_eq!(lines.join("\n") + "\n", String::from_utf8(file("plays/worked.lines")).expect("plain letters"));
+    let page = String::from_utf8(file("docs/PLAY.md")).expect("plain letters");
+    assert!(page.contains(&format!("Its {} bytes:", play.len())));
+}
