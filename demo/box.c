@@ -1,8 +1,9 @@
 /*
  * A station box that keeps its unit's memory in a file: box FOLDER
  *
- * It makes the memory fresh, writes pages, starts again from the file, reads the pages back, trims, prunes and seals, and
- * shows each refusal by its name. It prints an account of all this, and ends with 1 where something is not as it should be.
+ * It makes the memory fresh, writes pages, starts again from the file, reads the pages back, trims, prunes and seals, shows
+ * each refusal by its name, and keeps a mast record in a second box. It prints an account of all this, and ends with 1
+ * where something is not as it should be.
  */
 #define _POSIX_C_SOURCE 200809L
 #include <fcntl.h>
@@ -82,6 +83,7 @@ static const char *name_of(uint8_t answer)
     case UNIT_ANSWER_WRITTEN: return "written";
     case UNIT_ANSWER_UNWRITTEN: return "unwritten";
     case UNIT_ANSWER_FULL: return "full";
+    case UNIT_ANSWER_LAYOUT: return "layout";
     case UNIT_ANSWER_NOBODY: return "nobody";
     default: return "a number that no unit answers";
     }
@@ -152,11 +154,14 @@ static void seal(struct box *box, uint32_t epoch)
 static const char short_text[] = "signal 12 at danger";
 static const char whole_page[] = "platform 4 clear, doors shut 815"; /* 32 bytes, all that a page holds */
 static const char too_long[] = "platform 4 clear, doors shut 0815";
+/* 80 bytes, all that a page of the large shape holds; and one byte more */
+static const char mast_record[] = "mast 2, 06:40: wind 7 m/s from NW, gust 11, rain 0.2 mm, 14.5 C, 3.71 V, tag 815";
+static const char mast_too_long[] = "mast 2, 06:40: wind 7 m/s from NW, gust 11, rain 0.2 mm, 14.5 C, 3.71 V, tag 0815";
 
 static void pages(struct box *box)
 {
     printf("A new box is unit 3. Its memory, %d bytes, is kept in the file unit-3.memory.\n", STATION_MEMORY);
-    changed(box, "make the memory of unit 3", unit_fresh(box->mem, STATION_MEMORY, 3));
+    changed(box, "make the memory of unit 3", unit_fresh(box->mem, STATION_MEMORY, 3, UNIT_SHAPE_SMALL));
     read_page(box, 1, 0, 0, "");
     write_text(box, "write 0, 19 bytes", 1, 0, short_text);
     write_text(box, "write 1, 32 bytes", 1, 1, whole_page);
@@ -227,7 +232,8 @@ static void refusals(struct box *box)
     write_text(box, "write 1, below the floor", 2, 1, short_text);
     write_junk(box, "write 2, which is written", 2, 2);
     read_page(box, 2, 8, 0, "");
-    tell("make the memory of unit 9", unit_fresh(box->mem, STATION_MEMORY, 9));
+    tell("make the memory of unit 3 in shape 2", unit_fresh(box->mem, STATION_MEMORY, 3, 2));
+    tell("make the memory of unit 9", unit_fresh(box->mem, STATION_MEMORY, 9, UNIT_SHAPE_SMALL));
     if (memcmp(box->mem, before.mem, STATION_MEMORY) != 0)
         stop("a refusal changed the memory");
 }
@@ -249,20 +255,38 @@ static void filling(struct box *box)
     seal(box, 2);
 }
 
+static void mast(struct box *box)
+{
+    printf("\nA mast's box is unit 4, of the large shape: a page holds a whole mast record.\n");
+    changed(box, "make the memory of unit 4, large", unit_fresh(box->mem, STATION_MEMORY, 4, UNIT_SHAPE_LARGE));
+    write_text(box, "write 0, a mast record of 80 bytes", 1, 0, mast_record);
+    write_text(box, "write 1, 81 bytes", 1, 1, mast_too_long);
+    restart(box);
+    read_page(box, 1, 0, UNIT_KIND_DATA, mast_record);
+}
+
+/* Where a box keeps its memory. */
+static void settle(struct box *box, const char *folder, int unit)
+{
+    box->folder = folder;
+    int a = snprintf(box->file, sizeof box->file, "%s/unit-%d.memory", folder, unit);
+    int b = snprintf(box->second, sizeof box->second, "%s/unit-%d.memory.next", folder, unit);
+    if (a < 0 || b < 0 || (size_t)b >= sizeof box->second)
+        stop("the folder's name is too long");
+}
+
 int main(int argc, char **argv)
 {
-    static struct box box;
+    static struct box box, mast_box;
     if (argc != 2)
         stop("usage: box FOLDER");
-    box.folder = argv[1];
-    int a = snprintf(box.file, sizeof box.file, "%s/unit-3.memory", argv[1]);
-    int b = snprintf(box.second, sizeof box.second, "%s/unit-3.memory.next", argv[1]);
-    if (a < 0 || b < 0 || (size_t)b >= sizeof box.second)
-        stop("the folder's name is too long");
+    settle(&box, argv[1], 3);
+    settle(&mast_box, argv[1], 4);
     pages(&box);
     trim_and_prune(&box);
     sealing(&box);
     refusals(&box);
     filling(&box);
+    mast(&mast_box);
     return 0;
 }

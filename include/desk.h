@@ -5,8 +5,9 @@
  * one number of enum desk_answer. A call that answers anything but DESK_ANSWER_FINE has changed nothing: no byte of out, and
  * *set, *lines and *written keep what they held.
  *
- * A layout is its bytes: epoch (4, little-endian), then units, sets and ranges, each section after its one-byte count. No pointer
- * may be NULL, also where its length is 0, and what is written lies apart from all else.
+ * A layout is its bytes: epoch (4, little-endian), shape (1: 0 small units, 1 large ones), then units, sets and ranges, each
+ * section after its one-byte count. No pointer may be NULL, also where its length is 0, and what is written lies apart from all
+ * else.
  */
 #ifndef DESK_H
 #define DESK_H
@@ -19,7 +20,7 @@ extern "C" {
 #endif
 
 /* The bytes of the largest layout: room enough for every plan. */
-#define DESK_LAYOUT 167
+#define DESK_LAYOUT 168
 
 /* The bytes of the longest play, and of the longest line that a step shows. */
 #define DESK_PLAY 65536
@@ -31,7 +32,7 @@ enum desk_answer {
     DESK_ANSWER_SPENT = 9,         /* the new range would start at 2^40 */
     DESK_ANSWER_LAYOUT = 10,       /* a layout, the new sets or a unit to drop not good; out too short for the new layout */
     DESK_ANSWER_OVERTAKEN = 11,    /* the offered epoch is not the held one plus 1 */
-    DESK_ANSWER_SUCCESSOR = 12,    /* not a lawful successor */
+    DESK_ANSWER_SUCCESSOR = 12,    /* not a lawful successor, or one of another shape */
     DESK_ANSWER_SET_LOST = 13,     /* dropping would empty a set */
     DESK_ANSWER_LAYOUT_FULL = 14,  /* more than 16 sets or 8 ranges */
     DESK_ANSWER_EPOCHS_SPENT = 15, /* the held epoch is 2^32 - 1 */

@@ -14,8 +14,9 @@
  *   - No pointer may be NULL, data neither when data_len is 0: then point it to anything.
  *   - data, kind, start, length and edge lie outside mem, and apart from each other.
  *   - Nothing is locked: while a call runs, nobody else may touch mem.
- *   - No call takes more than 512 bytes of stack (docs/SPEED.md). unit_fresh, unit_write and unit_prune call memset: on a
- *     small stack link that statically or with -z now, since a loader that binds it at the first call takes over 2 KiB.
+ *   - No call takes more than 512 bytes of stack (docs/SPEED.md). unit_fresh, unit_write, unit_trim and unit_prune call
+ *     memset: on a small stack link that statically or with -z now, since a loader that binds it at the first call takes
+ *     over 2 KiB.
  */
 #ifndef STATION_H
 #define STATION_H
@@ -27,38 +28,53 @@
 extern "C" {
 #endif
 
-/* How large a unit's memory is, in bytes; and what it holds. */
+/* How large a unit's memory is, in bytes, in either shape. */
 #define STATION_MEMORY 6168
-#define STATION_SLOTS 128                       /* written or trimmed positions at a time, at or above the floor */
-#define STATION_PAGE 32                         /* bytes of a data page, at most */
 #define STATION_POSITIONS (UINT64_C(1) << 40)   /* positions are 0 to STATION_POSITIONS - 1 */
+
+/*
+ * A unit's shape: many short pages, or fewer that take a mast record. unit_fresh stores it in the memory, where every other
+ * call finds it. The units of one yard are all of one shape. A memory from before there were two is small.
+ */
+enum unit_shape {
+    UNIT_SHAPE_SMALL = 0,
+    UNIT_SHAPE_LARGE = 1
+};
+
+/* What each shape holds: so many written or trimmed positions at a time, at or above the floor, and so many bytes in a page. */
+#define STATION_SMALL_SLOTS 128
+#define STATION_SMALL_PAGE 32
+#define STATION_LARGE_SLOTS 64
+#define STATION_LARGE_PAGE 80
 
 /* What a call answers, by the name that the log's papers give it. */
 enum unit_answer {
     UNIT_ANSWER_FINE = 0,      /* done */
     UNIT_ANSWER_MEMORY = 1,    /* the memory is not good: damaged, never made by unit_fresh, or of a wrong length */
     UNIT_ANSWER_POSITION = 2,  /* the position is 2^40 or more; in unit_prune, above 2^40 */
-    UNIT_ANSWER_PAGE = 3,      /* data longer than 32 bytes, junk with bytes, or a kind that is neither data nor junk */
+    UNIT_ANSWER_PAGE = 3,      /* data too long for the shape, junk with bytes, or a kind that is neither data nor junk */
     UNIT_ANSWER_SEALED = 4,    /* the epoch is at most the sealed one; in unit_seal, below it */
     UNIT_ANSWER_TRIMMED = 5,   /* write or read of a trimmed position */
     UNIT_ANSWER_WRITTEN = 6,   /* write of a written position: what is written once stays */
     UNIT_ANSWER_UNWRITTEN = 7, /* read of a position that is neither written nor trimmed */
-    UNIT_ANSWER_FULL = 8,      /* write or trim needs a slot and all 128 are used: prune first */
+    UNIT_ANSWER_FULL = 8,      /* write or trim needs a slot and all of the shape's are used: prune first */
+    UNIT_ANSWER_LAYOUT = 10,   /* unit_fresh: no such shape */
     UNIT_ANSWER_NOBODY = 17    /* unit_fresh: no such unit, the number is not 1 to 8 */
 };
 
 /* What a written position holds. A data page of length 0, a junk page and an unwritten position are three different things. */
 enum unit_kind {
-    UNIT_KIND_DATA = 1, /* a page of 0 to 32 bytes */
+    UNIT_KIND_DATA = 1, /* a page of 0 to 32 bytes, or 0 to 80 in a unit of the large shape */
     UNIT_KIND_JUNK = 2  /* a hole that was filled so that readers can pass it: no bytes */
 };
 
 /*
- * Makes mem the memory of unit `number`, 1 to 8, that has never been written, whatever the bytes were before: nothing
- * sealed, nothing written, floor 0. Only for a new box: a unit that starts again reads its old memory back instead.
- * Answers: FINE; MEMORY (len is not STATION_MEMORY); NOBODY.
+ * Makes mem the memory of unit `number`, 1 to 8, in a shape of enum unit_shape, that has never been written, whatever the
+ * bytes were before: nothing sealed, nothing written, floor 0. Only for a new box: a unit that starts again reads its old
+ * memory back instead.
+ * Answers: FINE; MEMORY (len is not STATION_MEMORY); LAYOUT; NOBODY.
  */
-uint8_t unit_fresh(uint8_t *mem, size_t len, uint32_t number);
+uint8_t unit_fresh(uint8_t *mem, size_t len, uint32_t number, uint8_t shape);
 
 /*
  * Writes a page at a position that was never written: data_len bytes from data for UNIT_KIND_DATA, or UNIT_KIND_JUNK with

@@ -26,7 +26,7 @@ pub fn answer(sides: &[Side; SIDES], memory: &[u8], call: &Call) -> u8 {
 
 /// How often each number was answered to random calls on random memories, every second one damaged.
 fn random_calls<const SLOT: usize>(tries: usize) -> [usize; ANSWERS] {
-    let sides = sides::<SLOT>();
+    let sides = sides();
     let mut random = Random::new(9);
     let mut seen = [0; ANSWERS];
     for nth in 0..tries {
@@ -42,7 +42,7 @@ fn random_calls<const SLOT: usize>(tries: usize) -> [usize; ANSWERS] {
 
 /// How many of the changes of one byte to a memory are refused, of how many.
 fn every_byte<const SLOT: usize>() -> (usize, usize) {
-    let sides = sides::<SLOT>();
+    let sides = sides();
     let mut memory = draw::half_full::<SLOT>();
     let call = Call::Seal { epoch: u32::MAX };
     assert_eq!(answer(&sides, &memory, &call), 0);

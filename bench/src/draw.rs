@@ -2,7 +2,7 @@
 
 use crate::call::Call;
 use crate::random::Random;
-use crate::unit::{page, slots, u32_at, u64_at, HEADER, MEMORY, PAYLOAD, POSITIONS};
+use crate::unit::{page, shape, slots, u32_at, u64_at, HEADER, MEMORY, PAYLOAD, POSITIONS};
 
 const EPOCHS: [u32; 5] = [0, 1, 7, u32::MAX - 1, u32::MAX];
 
@@ -45,6 +45,7 @@ pub fn memory<const SLOT: usize>(random: &mut Random) -> Vec<u8> {
         count += 1;
     }
     memory[0] = 1 + random.below(8) as u8;
+    memory[1] = shape(SLOT);
     memory[4..8].copy_from_slice(&random.one_of(&EPOCHS).to_le_bytes());
     memory[8..16].copy_from_slice(&floor.to_le_bytes());
     memory[16..18].copy_from_slice(&(count as u16).to_le_bytes());
@@ -64,6 +65,7 @@ pub fn half_full<const SLOT: usize>() -> Vec<u8> {
         );
     }
     memory[0] = 1;
+    memory[1] = shape(SLOT);
     memory[16..18].copy_from_slice(&(slots(SLOT) as u16 / 2).to_le_bytes());
     memory
 }

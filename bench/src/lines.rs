@@ -4,7 +4,7 @@ use crate::call::{Call, Made, Seen, UNSEEN};
 use crate::random::Random;
 use crate::side::{sides, SIDES};
 use crate::time::{turns, Time};
-use crate::unit::{page, slots, MEMORY};
+use crate::unit::{page, shape, slots, MEMORY};
 use crate::{alike, library, tuned};
 
 const EPOCH: u32 = 1;
@@ -33,7 +33,7 @@ impl Pages {
     /// A memory of unit 1 with `count` slots, at positions 0, 2, 4, ..; of mixed ones some are junk and some trimmed.
     fn memory<const SLOT: usize>(self, count: usize) -> Vec<u8> {
         let mut memory = vec![0; MEMORY];
-        assert_eq!(library::fresh(&mut memory, 1), 0);
+        assert_eq!(library::fresh(&mut memory, 1, shape(SLOT)), 0);
         for index in 0..count {
             let position = 2 * index as u64;
             let answer = match (self, index % 8) {
@@ -93,7 +93,7 @@ fn pass<'a>() -> Made<'a> {
 
 /// The times of all sides, ours first, and of the pass, last.
 fn times<const SLOT: usize>(pages: Pages, line: &Line, rounds: usize, idle: f64) -> Vec<Time> {
-    let sides = sides::<SLOT>();
+    let sides = sides();
     let memory = pages.memory::<SLOT>(line.used);
     assert_eq!(alike::answer(&sides, &memory, &line.call), 0, "{}: refused", line.words);
     let calls = sides.iter().map(|side| line.call.on(side)).chain([pass()]).collect();
@@ -108,10 +108,11 @@ fn row(first: &str, times: &[String], ratios: &[String]) {
 
 /// Prints the table, in Markdown.
 pub fn print<const SLOT: usize>(rounds: usize) {
-    let names: Vec<&str> = sides::<SLOT>().iter().map(|side| side.name).collect();
+    let names: Vec<&str> = sides().iter().map(|side| side.name).collect();
     let idle = turns(&vec![0; MEMORY], rounds, 0.0, vec![Box::new(|_| UNSEEN)])[0].median;
     println!(
-        "\nNanoseconds of a call, native code for {}: the median of {rounds} rounds, and their quartiles.\n",
+        "\nNanoseconds of a call on {} slots of {SLOT} bytes, native code for {}: the median of {rounds} rounds, and their quartiles.\n",
+        slots(SLOT),
         std::env::consts::ARCH
     );
     let head: Vec<String> = names.iter().chain(&["one pass"]).map(|name| name.to_string()).collect();

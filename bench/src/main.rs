@@ -1,4 +1,4 @@
-//! Times the proved unit and three Rust versions on the same calls, and prints a table of nanoseconds and of ratios ours / Rust.
+//! Times the proved unit of either shape and three Rust versions on the same calls, and prints a table of nanoseconds and of ratios ours / Rust.
 //!
 //! Before that all sides are held to the same answers and bytes. With --short it makes only a few rounds, so that the times mean little.
 
@@ -19,6 +19,8 @@ mod tuned;
 mod unit;
 mod whole;
 
+use crate::unit::{LARGE, SMALL};
+
 fn main() {
     let short = match std::env::args().skip(1).collect::<Vec<_>>().as_slice() {
         [] => false,
@@ -29,6 +31,8 @@ fn main() {
         }
     };
     let (tries, rounds) = if short { (5_000, 5) } else { (200_000, 10_001) };
-    alike::hold::<48>(tries);
-    lines::print::<48>(rounds);
+    alike::hold::<SMALL>(tries);
+    alike::hold::<LARGE>(tries);
+    lines::print::<SMALL>(rounds);
+    lines::print::<LARGE>(rounds);
 }

@@ -2,7 +2,7 @@
 
 use crate::plain::Plain;
 use crate::tuned::Tuned;
-use crate::unit::Version;
+use crate::unit::{shape, Version, LARGE, SMALL};
 use crate::whole::Whole;
 use crate::{library, unit};
 
@@ -25,21 +25,50 @@ const OURS: Side = Side {
     seal: library::seal,
 };
 
-const fn rust<V: Version<SLOT>, const SLOT: usize>(name: &'static str) -> Side {
-    Side {
-        name,
-        write: unit::write::<V, SLOT>,
-        read: unit::read::<V, SLOT>,
-        trim: unit::trim::<V, SLOT>,
-        prune: unit::prune::<V, SLOT>,
-        seal: unit::seal::<V, SLOT>,
+/// Whether a memory says that it is a large unit's.
+fn large(mem: &[u8]) -> bool {
+    mem.get(1) == Some(&shape(LARGE))
+}
+
+/// A Rust version for either shape: the memory itself names it.
+struct Either<V>(std::marker::PhantomData<V>);
+
+impl<V: Version<SMALL> + Version<LARGE>> Either<V> {
+    fn write(mem: &mut [u8], epoch: u32, position: u64, kind: u8, data: &[u8]) -> u8 {
+        let write = if large(mem) { unit::write::<V, LARGE> } else { unit::write::<V, SMALL> };
+        write(mem, epoch, position, kind, data)
+    }
+
+    fn read(mem: &[u8], epoch: u32, position: u64, kind: &mut u8, start: &mut u64, length: &mut u64) -> u8 {
+        let read = if large(mem) { unit::read::<V, LARGE> } else { unit::read::<V, SMALL> };
+        read(mem, epoch, position, kind, start, length)
+    }
+
+    fn trim(mem: &mut [u8], epoch: u32, position: u64) -> u8 {
+        let trim = if large(mem) { unit::trim::<V, LARGE> } else { unit::trim::<V, SMALL> };
+        trim(mem, epoch, position)
+    }
+
+    fn prune(mem: &mut [u8], epoch: u32, position: u64) -> u8 {
+        let prune = if large(mem) { unit::prune::<V, LARGE> } else { unit::prune::<V, SMALL> };
+        prune(mem, epoch, position)
+    }
+
+    fn seal(mem: &mut [u8], epoch: u32, edge: &mut u64) -> u8 {
+        let seal = if large(mem) { unit::seal::<V, LARGE> } else { unit::seal::<V, SMALL> };
+        seal(mem, epoch, edge)
+    }
+
+    const fn side(name: &'static str) -> Side {
+        let (write, read) = (Either::<V>::write, Either::<V>::read);
+        Side { name, write, read, trim: Either::<V>::trim, prune: Either::<V>::prune, seal: Either::<V>::seal }
     }
 }
 
 /// How many sides there are.
 pub const SIDES: usize = 4;
 
-/// All sides for slots of this size, ours first.
-pub const fn sides<const SLOT: usize>() -> [Side; SIDES] {
-    [OURS, rust::<Plain, SLOT>("plain"), rust::<Whole, SLOT>("whole"), rust::<Tuned, SLOT>("tuned")]
+/// All sides, ours first.
+pub const fn sides() -> [Side; SIDES] {
+    [OURS, Either::<Plain>::side("plain"), Either::<Whole>::side("whole"), Either::<Tuned>::side("tuned")]
 }

@@ -1,7 +1,7 @@
 //! The version tuned by hand: slots as words, four a turn and no early exit; zeros by many sums side by side; a place by the
 //! edge or by halving.
 
-use crate::unit::{page, slots, u32_at, u64_at, Header, Version, HEADER, MEMORY, PAYLOAD, POSITIONS};
+use crate::unit::{names_unit, page, slots, u32_at, u64_at, Header, Version, HEADER, MEMORY, PAYLOAD, POSITIONS};
 
 pub struct Tuned;
 
@@ -105,7 +105,7 @@ impl<const SLOT: usize> Version<SLOT> for Tuned {
         let floor = u64_at(mem, 8);
         // with the six zeros: any other byte makes it too large
         let count = u64_at(mem, 16);
-        if !(1..=8).contains(&u32_at(mem, 0)) || floor > POSITIONS || count > slots(SLOT) as u64 {
+        if !names_unit(SLOT, u32_at(mem, 0)) || floor > POSITIONS || count > slots(SLOT) as u64 {
             return None;
         }
         let count = count as usize;

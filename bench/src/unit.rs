@@ -4,6 +4,9 @@
 
 pub const MEMORY: usize = 6168;
 pub const HEADER: usize = 24;
+/// Bytes of a slot, small and large.
+pub const SMALL: usize = 48;
+pub const LARGE: usize = 96;
 /// Where a slot's payload begins in it.
 pub const PAYLOAD: usize = 16;
 pub const POSITIONS: u64 = 1 << 40;
@@ -15,6 +18,17 @@ pub const fn page(slot: usize) -> usize {
 
 pub const fn slots(slot: usize) -> usize {
     (MEMORY - HEADER) / slot
+}
+
+/// The byte that names the shape of a unit with such slots, in its memory.
+pub const fn shape(slot: usize) -> u8 {
+    if slot == LARGE { 1 } else { 0 }
+}
+
+/// Whether a memory's first four bytes name a unit with such slots.
+pub fn names_unit(slot: usize, name: u32) -> bool {
+    let first = 1 + 256 * u32::from(shape(slot));
+    (first..first + 8).contains(&name)
 }
 
 /// What good memory says of its unit.

@@ -1,6 +1,6 @@
 //! The version that looks at all bytes whatever they are: no test ends early, so that the compiler tests many bytes at once.
 
-use crate::unit::{page, slots, u16_at, u32_at, u64_at, Header, Version, HEADER, MEMORY, PAYLOAD, POSITIONS};
+use crate::unit::{names_unit, page, slots, u16_at, u32_at, u64_at, Header, Version, HEADER, MEMORY, PAYLOAD, POSITIONS};
 
 pub struct Whole;
 
@@ -24,7 +24,7 @@ impl<const SLOT: usize> Version<SLOT> for Whole {
         }
         let floor = u64_at(mem, 8);
         let count = usize::from(u16_at(mem, 16));
-        if !(1..=8).contains(&u32_at(mem, 0)) || floor > POSITIONS || count > slots(SLOT) || !zeros(&mem[18..HEADER]) {
+        if !names_unit(SLOT, u32_at(mem, 0)) || floor > POSITIONS || count > slots(SLOT) || !zeros(&mem[18..HEADER]) {
             return None;
         }
         let (used, unused) = mem[HEADER..].split_at(count * SLOT);

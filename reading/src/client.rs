@@ -5,6 +5,7 @@ use crate::letter::{Ask, Body, Letter, Reply, Stamp};
 use crate::no::{self, unless, No, LIMIT};
 use crate::operation::{Next, Operation};
 use crate::plan::Change;
+use crate::shape::Shape;
 use crate::shortcut::Shortcut;
 use crate::unit::Page;
 
@@ -20,10 +21,10 @@ pub enum Job {
 }
 
 impl Job {
-    /// Position and page, checked when the operation begins.
-    pub fn check(&self) -> Result<(), No> {
+    /// Position and page, checked when the operation begins in a yard of this shape.
+    pub fn check(&self, shape: Shape) -> Result<(), No> {
         match self {
-            Job::Append(data) => unless(data.len() > Page::BYTES, no::PAGE),
+            Job::Append(data) => unless(data.len() > shape.payload(), no::PAGE),
             Job::Read(p) | Job::Fill(p) | Job::Trim(p) => unless(*p >= LIMIT, no::POSITION),
             Job::Prune(p) => unless(*p > LIMIT, no::POSITION),
             Job::Reorganise(_) => Ok(()),

@@ -22,7 +22,7 @@ pub fn lengthened(file: &[u8]) -> Vec<Vec<u8>> {
 
 /// A play of exactly this length: unit 1 alone, and a sequencer that forgets again and again.
 pub fn play_of(length: usize) -> Vec<u8> {
-    let layout = Layout { epoch: 1, sets: vec![vec![1]], ranges: vec![Range { start: 0, uses: 1 }] };
+    let layout = Layout { epoch: 1, shape: 0, sets: vec![vec![1]], ranges: vec![Range { start: 0, uses: 1 }] };
     let mut file = Play { layout, steps: vec![] }.write().expect("it fits");
     let steps = length - file.len();
     let count = file.len() - 4;

@@ -57,14 +57,16 @@ fn prune_position(raw: &Raw, yard: &Yard, mood: &Mood) -> u64 {
     }
 }
 
-fn data(raw: &Raw) -> Vec<u8> {
+/// Mostly short; empty, as long as the yard's pages may be, or somewhat longer.
+fn data(raw: &Raw, yard: &Yard) -> Vec<u8> {
+    let most = yard.held.units_shape().payload() as u32;
     let length = match raw.of(10, 8) {
-        0 => raw.of(11, 40),
+        0 => raw.of(11, most + 8),
         1 => 0,
-        2 => 32,
+        2 => most,
         _ => 1 + raw.of(11, 8),
     };
-    (0..length as usize).map(|i| if i < 32 { raw.of(24 + i, 256) as u8 } else { 0 }).collect()
+    (0..length as usize).map(|i| (raw.of(24 + i % 32, 256) as usize + i / 32) as u8).collect()
 }
 
 /// None, the units that have stopped, one or two, or any numbers.
@@ -113,7 +115,7 @@ fn kind(raw: &Raw, mood: &Mood, memo: &Memo) -> usize {
 
 pub fn draw_job(raw: &Raw, yard: &Yard, mood: &Mood, memo: &Memo) -> Job {
     match kind(raw, mood, memo) {
-        0 => Job::Append(data(raw)),
+        0 => Job::Append(data(raw, yard)),
         1 => Job::Read(position(raw, yard, mood, memo)),
         2 => Job::Fill(fill_position(raw, yard, mood, memo)),
         3 => Job::Trim(position(raw, yard, mood, memo)),

@@ -115,8 +115,10 @@ fn letters(yard: &Yard) -> Result<(), String> {
 pub fn good_memories(yard: &Yard) -> Result<(), String> {
     for unit in &yard.units {
         must(memory::decode(&memory::encode(unit)).as_ref() == Some(unit), || format!("the memory of {}", unit.number))?;
-        let right = unit.cells.values().all(|cell| !matches!(cell, Cell::Holds(page) if page.bytes().len() > 32));
+        let most = unit.shape.payload();
+        let right = unit.cells.values().all(|cell| !matches!(cell, Cell::Holds(page) if page.bytes().len() > most));
         must(right, || format!("a page of unit {}", unit.number))?;
+        must(unit.shape.byte() == yard.held.shape, || format!("the shape of unit {}", unit.number))?;
     }
     Ok(())
 }

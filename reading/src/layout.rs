@@ -1,6 +1,7 @@
 //! A layout, when it is good, and where a position belongs.
 
 use crate::no::LIMIT;
+use crate::shape::Shape;
 use std::collections::BTreeSet;
 
 pub type Set = Vec<u8>;
@@ -14,6 +15,8 @@ pub struct Range {
 #[derive(Clone, Debug, PartialEq, Eq)]
 pub struct Layout {
     pub epoch: u32,
+    /// The kind of all units of the yard: 0 small, 1 large.
+    pub shape: u8,
     pub sets: Vec<Set>,
     pub ranges: Vec<Range>,
 }
@@ -42,6 +45,7 @@ impl Layout {
         let starts: Vec<u64> = self.ranges.iter().map(|range| range.start).collect();
         let used: usize = self.ranges.iter().map(|range| usize::from(range.uses)).sum();
         self.epoch >= 1
+            && Shape::of(self.shape).is_some()
             && (1..=SETS).contains(&self.sets.len())
             && (1..=RANGES).contains(&self.ranges.len())
             && self.sets.iter().all(|set| good_set(set))
@@ -50,6 +54,11 @@ impl Layout {
             && starts.iter().all(|start| *start < LIMIT)
             && self.ranges.iter().all(|range| range.uses >= 1)
             && used == self.sets.len()
+    }
+
+    /// The shape of all units of the yard, in a good layout.
+    pub fn units_shape(&self) -> Shape {
+        Shape::of(self.shape).expect("a good layout names one")
     }
 
     /// The number of p's set, counted from 0, in a good layout.

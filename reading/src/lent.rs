@@ -17,7 +17,8 @@ pub struct Lent<'a> {
 
 /// 1, 10, 16; else the units.
 pub fn test(lent: &Lent) -> Result<Vec<Unit>, No> {
-    let unit = |(i, bytes): (usize, &Vec<u8>)| memory::decode(bytes).filter(|unit| usize::from(unit.number) == i + 1);
+    let fits = |i: usize, unit: &Unit| usize::from(unit.number) == i + 1 && unit.shape.byte() == lent.held.shape;
+    let unit = |(i, bytes): (usize, &Vec<u8>)| memory::decode(bytes).filter(|unit| fits(i, unit));
     let units = lent.memories.iter().enumerate().map(unit).collect::<Option<Vec<Unit>>>().ok_or(no::MEMORY)?;
     unless(units.len() != 8, no::MEMORY)?;
     unless(!lent.held.good() || !lent.fetched.iter().all(Layout::good), no::LAYOUT)?;

@@ -4,6 +4,7 @@
 pub mod no;
 
 pub mod memory;
+pub mod shape;
 pub mod unit;
 
 pub mod bytes;

@@ -2,24 +2,25 @@
 
 use crate::layout::UNITS;
 use crate::no::{self, unless, No, LIMIT};
+use crate::shape::Shape;
 use crate::unit::{Cell, Page, Unit};
 use std::collections::BTreeMap;
 
 pub const HEADER: usize = 24;
-pub const SLOT: usize = 48;
-pub const SIZE: usize = HEADER + Unit::SLOTS * SLOT;
+pub const SIZE: usize = 6168;
 
-/// A fresh unit's memory in a buffer of this length.
-pub fn fresh(length: usize, number: u8) -> Result<Vec<u8>, No> {
+/// A fresh unit's memory in a buffer of this length, of the shape that the byte names.
+pub fn fresh(length: usize, number: u8, shape: u8) -> Result<Vec<u8>, No> {
     unless(length != SIZE, no::MEMORY)?;
+    let shape = Shape::of(shape).ok_or(no::LAYOUT)?;
     unless(!(1..=UNITS).contains(&number), no::NOBODY)?;
-    Ok(encode(&Unit::fresh(number)))
+    Ok(encode(&Unit::fresh(number, shape)))
 }
 
 /// The bytes of a unit's memory.
 pub fn encode(unit: &Unit) -> Vec<u8> {
     let mut memory = Vec::with_capacity(SIZE);
-    memory.extend(u32::from(unit.number).to_le_bytes());
+    memory.extend([unit.number, unit.shape.byte(), 0, 0]);
     memory.extend(unit.sealed.to_le_bytes());
     memory.extend(unit.floor.to_le_bytes());
     memory.extend((unit.cells.len() as u16).to_le_bytes());
@@ -32,7 +33,7 @@ pub fn encode(unit: &Unit) -> Vec<u8> {
         memory.extend(position.to_le_bytes());
         memory.extend([kind, payload.len() as u8, 0, 0, 0, 0, 0, 0]);
         memory.extend(payload);
-        memory.resize(memory.len() + Page::BYTES - payload.len(), 0);
+        memory.resize(memory.len() + unit.shape.payload() - payload.len(), 0);
     }
     memory.resize(SIZE, 0);
     memory
@@ -47,10 +48,10 @@ fn all_zero(bytes: &[u8]) -> bool {
 }
 
 /// One used slot: none where it is not good by itself.
-fn slot(bytes: &[u8]) -> Option<(u64, Cell)> {
+fn slot(bytes: &[u8], shape: Shape) -> Option<(u64, Cell)> {
     let (position, kind, length) = (number(&bytes[..8]), bytes[8], usize::from(bytes[9]));
     let payload = &bytes[16..];
-    if position >= LIMIT || length > Page::BYTES || !all_zero(&bytes[10..16]) || !all_zero(&payload[length..]) {
+    if position >= LIMIT || length > shape.payload() || !all_zero(&bytes[10..16]) || !all_zero(&payload[length..]) {
         return None;
     }
     match kind {
@@ -67,20 +68,21 @@ pub fn decode(memory: &[u8]) -> Option<Unit> {
         return None;
     }
     let (header, slots) = memory.split_at(HEADER);
-    let (unit, floor, count) = (number(&header[..4]), number(&header[8..16]), number(&header[16..18]) as usize);
-    if !(1..=u64::from(UNITS)).contains(&unit) || floor > LIMIT || count > Unit::SLOTS || !all_zero(&header[18..]) {
+    let (unit, shape) = (header[0], Shape::of(header[1])?);
+    let (floor, count) = (number(&header[8..16]), number(&header[16..18]) as usize);
+    if !(1..=UNITS).contains(&unit) || !all_zero(&header[2..4]) || floor > LIMIT || count > shape.slots() || !all_zero(&header[18..]) {
         return None;
     }
-    let (used, unused) = slots.split_at(count * SLOT);
+    let (used, unused) = slots.split_at(count * shape.slot());
     let mut cells = BTreeMap::new();
     let mut lowest = floor;
-    for bytes in used.chunks(SLOT) {
-        let (position, cell) = slot(bytes)?;
+    for bytes in used.chunks(shape.slot()) {
+        let (position, cell) = slot(bytes, shape)?;
         if position < lowest {
             return None;
         }
         lowest = position + 1;
         cells.insert(position, cell);
     }
-    all_zero(unused).then(|| Unit { number: unit as u8, sealed: number(&header[4..8]) as u32, floor, cells })
+    all_zero(unused).then(|| Unit { number: unit, shape, sealed: number(&header[4..8]) as u32, floor, cells })
 }

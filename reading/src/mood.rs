@@ -29,7 +29,7 @@ pub fn draw_set(raw: &Raw, k: usize) -> Set {
     set
 }
 
-/// One to four sets in one range or two; one layout of sixteen is spoilt.
+/// One to four sets in one range or two, of either shape; one layout of sixteen is spoilt.
 pub fn draw_layout(raw: &Raw) -> Layout {
     let count = 1 + raw.of(0, 4) as u8;
     let mut sets: Vec<Set> = (0..usize::from(count)).map(|i| draw_set(raw, 16 + 3 * i)).collect();
@@ -46,7 +46,7 @@ pub fn draw_layout(raw: &Raw) -> Layout {
         3 => sets[0][0] = 9,
         _ => {}
     }
-    Layout { epoch, sets, ranges }
+    Layout { epoch, shape: raw.of(10, 2) as u8, sets, ranges }
 }
 
 /// A busy run loses nothing and doubles little.

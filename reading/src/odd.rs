@@ -25,12 +25,22 @@ pub enum Odd {
     Letters,
     /// The first letter is an offer of client 1, under its first number, of a layout in which the first set is unit 8 alone.
     Offer,
+    /// Unit 3 is lent a memory of the other shape.
+    OtherShape,
 }
 
 impl Odd {
     /// In the order of the bytes that name them, from 1 on.
-    pub const ALL: [Odd; 7] =
-        [Odd::OldClients, Odd::OldEpochs, Odd::SpareByte, Odd::OtherUnit, Odd::NoSets, Odd::Letters, Odd::Offer];
+    pub const ALL: [Odd; 8] = [
+        Odd::OldClients,
+        Odd::OldEpochs,
+        Odd::SpareByte,
+        Odd::OtherUnit,
+        Odd::NoSets,
+        Odd::Letters,
+        Odd::Offer,
+        Odd::OtherShape,
+    ];
 
     pub const LIFE: u16 = 65_534;
     pub const USED: u32 = u32::MAX - 60;
@@ -61,7 +71,7 @@ impl Odd {
                 yard.held.epoch = Odd::EPOCH;
             }
             Odd::Offer => yard.bag.push(unlawful_offer(&yard.held)),
-            Odd::SpareByte | Odd::OtherUnit | Odd::NoSets | Odd::Letters => {}
+            Odd::SpareByte | Odd::OtherUnit | Odd::OtherShape | Odd::NoSets | Odd::Letters => {}
         }
     }
 
@@ -73,6 +83,7 @@ impl Odd {
         match self {
             Odd::SpareByte => memories[2][20] = 1,
             Odd::OtherUnit => memories[2][0] = 4,
+            Odd::OtherShape => memories[2][1] = 1 - held.shape,
             Odd::NoSets => held.sets.clear(),
             Odd::Letters => count = LETTERS + 1,
             Odd::OldClients | Odd::OldEpochs | Odd::Offer => {}

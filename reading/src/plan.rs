@@ -32,7 +32,7 @@ pub fn plan(held: &Layout, change: &Change) -> Result<Plan, No> {
     let ranges = held.ranges.len() + usize::from(!change.sets.is_empty());
     unless(sets.len() + change.sets.len() > SETS || ranges > RANGES, no::LAYOUT_FULL)?;
 
-    Ok(Plan { thinned: Layout { epoch, sets, ranges: held.ranges.clone() }, new: change.sets.clone() })
+    Ok(Plan { thinned: Layout { epoch, shape: held.shape, sets, ranges: held.ranges.clone() }, new: change.sets.clone() })
 }
 
 impl Plan {

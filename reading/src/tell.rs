@@ -3,6 +3,7 @@
 use crate::book::hex;
 use crate::client::Job;
 use crate::layout::{Layout, Set};
+use crate::shape::Shape;
 use crate::play::Play;
 use crate::yard::Step;
 
@@ -20,7 +21,8 @@ fn sets(sets: &[Set]) -> String {
 
 pub fn layout(layout: &Layout) -> String {
     let ranges: String = layout.ranges.iter().map(|range| format!(" {},{}", range.start, range.uses)).collect();
-    format!("layout {}{} ranges{ranges}", layout.epoch, sets(&layout.sets))
+    let large = if layout.units_shape() == Shape::Large { " large" } else { "" };
+    format!("layout {}{large}{} ranges{ranges}", layout.epoch, sets(&layout.sets))
 }
 
 fn job(job: &Job) -> String {

@@ -1,6 +1,7 @@
 //! What a unit does. Positions that hold something are a map; the memory's bytes are in `memory`.
 
 use crate::no::{self, unless, No, LIMIT};
+use crate::shape::Shape;
 use std::collections::BTreeMap;
 
 /// What somebody asked to be stored.
@@ -11,8 +12,6 @@ pub enum Page {
 }
 
 impl Page {
-    pub const BYTES: usize = 32;
-
     pub fn kind(&self) -> u8 {
         match self {
             Page::Data(_) => 1,
@@ -27,10 +26,10 @@ impl Page {
         }
     }
 
-    /// Kind 1 with at most 32 bytes, or kind 2 with none.
-    pub fn of(kind: u8, bytes: &[u8]) -> Option<Page> {
+    /// Kind 1 with at most as many bytes as the shape's payload, or kind 2 with none.
+    pub fn of(kind: u8, bytes: &[u8], shape: Shape) -> Option<Page> {
         match (kind, bytes.len()) {
-            (1, 0..=Page::BYTES) => Some(Page::Data(bytes.to_vec())),
+            (1, length) if length <= shape.payload() => Some(Page::Data(bytes.to_vec())),
             (2, 0) => Some(Page::Junk),
             _ => None,
         }
@@ -46,16 +45,15 @@ pub enum Cell {
 #[derive(Clone, Debug, PartialEq, Eq)]
 pub struct Unit {
     pub number: u8,
+    pub shape: Shape,
     pub sealed: u32,
     pub floor: u64,
     pub cells: BTreeMap<u64, Cell>,
 }
 
 impl Unit {
-    pub const SLOTS: usize = 128;
-
-    pub fn fresh(number: u8) -> Unit {
-        Unit { number, sealed: 0, floor: 0, cells: BTreeMap::new() }
+    pub fn fresh(number: u8, shape: Shape) -> Unit {
+        Unit { number, shape, sealed: 0, floor: 0, cells: BTreeMap::new() }
     }
 
     /// The larger of the floor and the last used position plus 1.
@@ -75,14 +73,14 @@ impl Unit {
     }
 
     fn take_slot(&mut self, p: u64, cell: Cell) -> Result<(), No> {
-        unless(self.cells.len() >= Unit::SLOTS, no::FULL)?;
+        unless(self.cells.len() >= self.shape.slots(), no::FULL)?;
         self.cells.insert(p, cell);
         Ok(())
     }
 
     pub fn write(&mut self, epoch: u32, p: u64, kind: u8, bytes: &[u8]) -> Result<(), No> {
         unless(p >= LIMIT, no::POSITION)?;
-        let page = Page::of(kind, bytes).ok_or(no::PAGE)?;
+        let page = Page::of(kind, bytes, self.shape).ok_or(no::PAGE)?;
         self.admits(epoch, p)?;
         unless(self.is_trimmed(p), no::TRIMMED)?;
         unless(self.cells.contains_key(&p), no::WRITTEN)?;

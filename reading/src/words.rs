@@ -5,6 +5,7 @@ use crate::client::Job;
 use crate::layout::{Layout, Range, Set};
 use crate::plan::Change;
 use crate::play::{self, step_bytes, Play};
+use crate::shape::Shape;
 use crate::yard::{Step, Yard};
 use std::fmt;
 use std::str::FromStr;
@@ -148,10 +149,15 @@ fn layout(line: &str) -> Read<Layout> {
         return Err("a play begins with its layout".into());
     }
     let epoch = words.number("epoch")?;
-    let sets = words.left.by_ref().take_while(|word| *word != "ranges");
-    let sets = sets.map(|word| list(word, "unit")).collect::<Read<Vec<_>>>()?;
+    let mut sets: Vec<&str> = words.left.by_ref().take_while(|word| *word != "ranges").collect();
+    let mut shape = Shape::Small;
+    if sets.first() == Some(&"large") {
+        shape = Shape::Large;
+        sets.remove(0);
+    }
+    let sets = sets.into_iter().map(|word| list(word, "unit")).collect::<Read<Vec<_>>>()?;
     let ranges = words.left.map(range).collect::<Read<Vec<_>>>()?;
-    let layout = Layout { epoch, sets, ranges };
+    let layout = Layout { epoch, shape: shape.byte(), sets, ranges };
     Yard::fresh(layout.clone()).map_err(|_| "no fresh yard is made of this layout")?;
     Ok(layout)
 }

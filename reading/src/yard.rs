@@ -49,10 +49,11 @@ pub struct Yard {
 impl Yard {
     pub fn fresh(layout: Layout) -> Result<Yard, No> {
         unless(!layout.good() || layout.epoch != 1, no::LAYOUT)?;
+        let shape = layout.units_shape();
         Ok(Yard {
             held: layout,
             sequencer: Sequencer::fresh(),
-            units: (1..=UNITS).map(Unit::fresh).collect(),
+            units: (1..=UNITS).map(|unit| Unit::fresh(unit, shape)).collect(),
             stopped: BTreeSet::new(),
             clients: (1..=CLIENTS).map(Client::fresh).collect(),
             bag: Vec::new(),
@@ -95,10 +96,11 @@ impl Yard {
     /// 17, 18, 19, 16, then 2 and 3.
     fn begin(&mut self, client: u8, job: &Job) -> Result<Option<Ended>, No> {
         let full = self.bag.len() >= LETTERS;
+        let shape = self.held.units_shape();
         let who = self.client(client)?;
         who.ready()?;
         unless(full, no::BAG_FULL)?;
-        job.check()?;
+        job.check(shape)?;
         let turn = who.begin(job.clone());
         Ok(self.settle(client, turn, None))
     }
@@ -199,9 +201,10 @@ impl Yard {
     }
 
     fn read(&self, unit: u8, epoch: u32, p: u64) -> Result<Reply, No> {
-        let page = self.units[usize::from(unit) - 1].read(self.tested(epoch), p)?;
+        let asked = &self.units[usize::from(unit) - 1];
+        let page = asked.read(self.tested(epoch), p)?;
         Ok(Reply::Shown(match page {
-            Page::Junk if self.shortcut == Some(Shortcut::JunkAsZeros) => Page::Data(vec![0; Page::BYTES]),
+            Page::Junk if self.shortcut == Some(Shortcut::JunkAsZeros) => Page::Data(vec![0; asked.shape.payload()]),
             _ => page.clone(),
         }))
     }

@@ -15,7 +15,7 @@ struct Told {
 
 impl Told {
     fn new(shortcut: Option<Shortcut>) -> Told {
-        let layout = Layout { epoch: 1, sets: vec![vec![1, 2]], ranges: vec![Range { start: 0, uses: 1 }] };
+        let layout = Layout { epoch: 1, shape: 0, sets: vec![vec![1, 2]], ranges: vec![Range { start: 0, uses: 1 }] };
         let mut yard = Yard::fresh(layout).expect("good");
         yard.shortcut = shortcut;
         Told { yard, history: History::default() }

@@ -14,8 +14,8 @@ const REFUSED: [&str; 1] = ["22\n"];
 
 /// The layout of unit 1 alone, and these steps.
 fn file(count: u32, steps: &[u8]) -> Vec<u8> {
-    let layout = [1, 0, 0, 0, 1, 1, 1, 1, 1, 1, 0, 0, 0, 0, 0, 0, 0, 0, 1];
-    [&[19, 0][..], &layout, &count.to_le_bytes(), steps].concat()
+    let layout = [1, 0, 0, 0, 0, 1, 1, 1, 1, 1, 1, 0, 0, 0, 0, 0, 0, 0, 0, 1];
+    [&[20, 0][..], &layout, &count.to_le_bytes(), steps].concat()
 }
 
 fn steps(count: u32, bytes: &[u8]) -> Option<Vec<Step>> {
@@ -80,11 +80,13 @@ fn what_does_not_read() {
 
 #[test]
 fn a_layout_that_starts_no_fresh_yard() {
-    let good = Layout { epoch: 1, sets: vec![vec![1, 2]], ranges: vec![Range { start: 0, uses: 1 }] };
+    let good = Layout { epoch: 1, shape: 0, sets: vec![vec![1, 2]], ranges: vec![Range { start: 0, uses: 1 }] };
     let play = |layout: &Layout| Play { layout: layout.clone(), steps: vec![Step::Forget] }.write().unwrap();
     assert!(reads(&play(&good)));
     assert!(!reads(&play(&Layout { epoch: 2, ..good.clone() })));
     assert!(!reads(&play(&Layout { epoch: 0, ..good.clone() })));
+    assert!(reads(&play(&Layout { shape: 1, ..good.clone() })));
+    assert!(!reads(&play(&Layout { shape: 2, ..good.clone() })));
     assert!(!reads(&play(&Layout { sets: vec![vec![2, 1]], ..good.clone() })));
     assert!(!reads(&play(&Layout { sets: vec![vec![1, 9]], ..good.clone() })));
     // the layout's count is one too small, or too large

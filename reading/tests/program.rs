@@ -116,7 +116,7 @@ fn files_that_are_hardly_plays() {
         agree_on_book("random bytes", &file);
     }
     assert_eq!(said(&program("odd"), &[]).expect("it runs"), "22\n");
-    for byte in [0, 8, 255] {
+    for byte in [0, 9, 255] {
         assert_eq!(said(&program("odd"), &[&[byte][..], &file].concat()).expect("it runs"), "22\n");
     }
 }

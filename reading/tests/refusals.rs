@@ -9,13 +9,14 @@ use reading::no::{self, number_of, LIMIT};
 use reading::plan::{plan, Change};
 use reading::sequencer::Sequencer;
 use reading::successor::offer;
+use reading::shape::Shape;
 use reading::unit::Unit;
 use reading::yard::{Step, Yard};
 
 fn layout(epoch: u32, sets: &[&[u8]], ranges: &[(u64, u8)]) -> Layout {
     let sets = sets.iter().map(|set| set.to_vec()).collect();
     let ranges = ranges.iter().map(|(start, uses)| Range { start: *start, uses: *uses }).collect();
-    Layout { epoch, sets, ranges }
+    Layout { epoch, shape: 0, sets, ranges }
 }
 
 fn yard() -> Yard {
@@ -126,7 +127,9 @@ fn the_holder_refuses_in_order() {
     let mut held = layout(3, &[&[1, 2], &[3]], &[(0, 2)]);
     let mut number = |offered: Layout| number_of(&offer(&mut held, &offered));
     assert_eq!(number(layout(9, &[&[2, 1]], &[(0, 1)])), no::LAYOUT);
+    assert_eq!(number(Layout { shape: 2, ..layout(4, &[&[1, 2], &[3]], &[(0, 2)]) }), no::LAYOUT);
     assert_eq!(number(layout(5, &[&[8]], &[(0, 1)])), no::OVERTAKEN);
+    assert_eq!(number(Layout { shape: 1, ..layout(4, &[&[1, 2], &[3]], &[(0, 2)]) }), no::SUCCESSOR);
     assert_eq!(number(layout(4, &[&[1, 2, 4], &[3]], &[(0, 2)])), no::SUCCESSOR);
     assert_eq!(number(layout(4, &[&[1], &[3], &[4]], &[(0, 3)])), no::SUCCESSOR);
     assert_eq!(number(layout(4, &[&[1], &[3], &[4], &[4]], &[(0, 2), (5, 1), (6, 1)])), no::SUCCESSOR);
@@ -150,11 +153,13 @@ fn the_sequencer_refuses_in_order() {
 fn what_is_lent_is_tested_first() {
     let held = layout(1, &[&[1]], &[(0, 1)]);
     let bad = layout(0, &[&[1]], &[(0, 1)]);
-    let memories: Vec<Vec<u8>> = (1..=8).map(|unit| memory::encode(&Unit::fresh(unit))).collect();
+    let memories: Vec<Vec<u8>> = (1..=8).map(|unit| memory::encode(&Unit::fresh(unit, Shape::Small))).collect();
     let mut swapped = memories.clone();
     swapped.swap(0, 1);
+    let large = Layout { shape: 1, ..held.clone() };
     let number = |memories: &[Vec<u8>], held: &Layout, places, count| number_of(&test(&Lent { memories, held, fetched: &[], places, count }));
     assert_eq!(number(&swapped, &bad, 31, 33), no::MEMORY);
+    assert_eq!(number(&memories, &large, 31, 33), no::MEMORY);
     assert_eq!(number(&memories, &bad, 31, 33), no::LAYOUT);
     assert_eq!(number(&memories, &held, 31, 0), no::BAG_FULL);
     assert_eq!(number(&memories, &held, 32, 33), no::BAG_FULL);

@@ -3,7 +3,7 @@
 /// A call, with the numbers and bytes as C passes them.
 #[derive(Clone, PartialEq, Eq, Debug)]
 pub enum Call {
-    Fresh { number: u32 },
+    Fresh { number: u32, shape: u8 },
     Write { epoch: u32, position: u64, kind: u8, data: Vec<u8> },
     Read { epoch: u32, position: u64 },
     Trim { epoch: u32, position: u64 },

@@ -1,7 +1,8 @@
 //! One call made on two sides, and every difference that a caller could see.
 
 use crate::call::{After, Call, Outputs, Side};
-use crate::memory::{HEADER, SLOT};
+use crate::memory::{slot, HEADER};
+use crate::unit::Shape;
 use crate::{proved, reading};
 
 /// What both sides show after the call, or in words where they differ.
@@ -14,7 +15,7 @@ pub fn on(sides: [Side; 2], memory: &[u8], call: &Call, outputs: Outputs) -> Res
     said += &format!("  answers {} and {}\n", first.answer, second.answer);
     said += &format!("  outputs {:?}\n      and {:?}\n", first.outputs, second.outputs);
     said += &match first.memory.iter().zip(&second.memory).position(|(a, b)| a != b) {
-        Some(at) => format!("  at {}: {} and {}", place(at), first.memory[at], second.memory[at]),
+        Some(at) => format!("  at {}: {} and {}", place(memory, at), first.memory[at], second.memory[at]),
         None => format!("  {} and {} bytes, the same so far", first.memory.len(), second.memory.len()),
     };
     Err(said)
@@ -28,11 +29,13 @@ pub fn agree(context: &str, memory: &[u8], call: &Call, outputs: Outputs) -> Aft
     on(SIDES, memory, call, outputs).unwrap_or_else(|said| panic!("library and reading differ: {context}: {said}"))
 }
 
-/// A byte's place in a memory, in words.
-fn place(at: usize) -> String {
-    match at.checked_sub(HEADER) {
-        None => format!("byte {at}, of the header"),
-        Some(past) => format!("byte {at}, byte {} of slot {}", past % SLOT, past / SLOT),
+/// A byte's place in a memory, in words; by the shape that the memory named before the call.
+fn place(memory: &[u8], at: usize) -> String {
+    let shape = memory.get(1).and_then(|byte| Shape::named(*byte));
+    match (at.checked_sub(HEADER), shape) {
+        (None, _) => format!("byte {at}, of the header"),
+        (Some(_), None) => format!("byte {at}, of a memory of no shape"),
+        (Some(past), Some(shape)) => format!("byte {at}, byte {} of slot {}", past % slot(shape), past / slot(shape)),
     }
 }
 

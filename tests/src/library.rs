@@ -2,7 +2,7 @@
 
 pub(crate) mod c {
     extern "C" {
-        pub fn unit_fresh(mem: *mut u8, len: usize, number: u32) -> u8;
+        pub fn unit_fresh(mem: *mut u8, len: usize, number: u32, shape: u8) -> u8;
         pub fn unit_write(
             mem: *mut u8,
             len: usize,
@@ -30,8 +30,8 @@ pub(crate) mod c {
 // A slice's pointer and length are what the library asks for, and borrows keep the slices apart from each other and from
 // the outputs.
 
-pub fn fresh(mem: &mut [u8], number: u32) -> u8 {
-    unsafe { c::unit_fresh(mem.as_mut_ptr(), mem.len(), number) }
+pub fn fresh(mem: &mut [u8], number: u32, shape: u8) -> u8 {
+    unsafe { c::unit_fresh(mem.as_mut_ptr(), mem.len(), number, shape) }
 }
 
 pub fn write(mem: &mut [u8], epoch: u32, position: u64, kind: u8, data: &[u8]) -> u8 {

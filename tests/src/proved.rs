@@ -14,7 +14,7 @@ pub fn after(memory: &[u8], call: &Call, mut outputs: Outputs) -> After {
     yard[field.clone()].copy_from_slice(memory);
     let mem = &mut yard[field.clone()];
     let answer = match *call {
-        Call::Fresh { number } => fresh(mem, number),
+        Call::Fresh { number, shape } => fresh(mem, number, shape),
         Call::Write { epoch, position, kind, ref data } => write(mem, epoch, position, kind, data),
         Call::Read { epoch, position } => {
             read(mem, epoch, position, &mut outputs.kind, &mut outputs.start, &mut outputs.length)

@@ -1,8 +1,8 @@
 //! A call made on the reading of the rules.
 
 use crate::call::{After, Call, Outputs};
-use crate::memory::{parse, print, HEADER, MEMORY, PAYLOAD, SLOT};
-use crate::unit::{Page, Refusal, Unit, PAGE};
+use crate::memory::{parse, print, slot, HEADER, MEMORY, PAYLOAD};
+use crate::unit::{Page, Refusal, Shape, Unit};
 
 /// What is seen after a call, by the rules.
 pub fn after(memory: &[u8], call: &Call, outputs: Outputs) -> After {
@@ -16,11 +16,11 @@ fn accepted(memory: &[u8], call: &Call, mut outputs: Outputs) -> Result<(Unit, O
     let mut unit = before(memory, call)?;
     match *call {
         Call::Fresh { .. } => {}
-        Call::Write { epoch, position, kind, ref data } => unit.write(epoch, position, page(kind, data))?,
+        Call::Write { epoch, position, kind, ref data } => unit.write(epoch, position, page(unit.shape, kind, data))?,
         Call::Read { epoch, position } => {
             let (page, place) = unit.read(epoch, position)?;
             (outputs.kind, outputs.length) = shown(page);
-            outputs.start = (HEADER + place * SLOT + PAYLOAD) as u64;
+            outputs.start = (HEADER + place * slot(unit.shape) + PAYLOAD) as u64;
         }
         Call::Trim { epoch, position } => unit.trim(epoch, position)?,
         Call::Prune { epoch, position } => unit.prune(epoch, position)?,
@@ -33,15 +33,15 @@ fn accepted(memory: &[u8], call: &Call, mut outputs: Outputs) -> Result<(Unit, O
 fn before(memory: &[u8], call: &Call) -> Result<Unit, Refusal> {
     match *call {
         Call::Fresh { .. } if memory.len() != MEMORY => Err(Refusal::Memory),
-        Call::Fresh { number } => Unit::fresh(number),
+        Call::Fresh { number, shape } => Unit::fresh(number, shape),
         _ => parse(memory).ok_or(Refusal::Memory),
     }
 }
 
-/// The page that a write is to write, and nothing where a unit takes no such page.
-fn page(kind: u8, data: &[u8]) -> Option<Page> {
+/// The page that a write is to write, and nothing where a unit of that shape takes no such page.
+fn page(shape: Shape, kind: u8, data: &[u8]) -> Option<Page> {
     match kind {
-        1 if data.len() <= PAGE => Some(Page::Data(data.to_vec())),
+        1 if data.len() <= shape.page() => Some(Page::Data(data.to_vec())),
         2 if data.is_empty() => Some(Page::Junk),
         _ => None,
     }

@@ -11,11 +11,12 @@ use std::collections::BTreeMap;
 /// How often each call gave each answer.
 pub type Tally = BTreeMap<(&'static str, u8), u64>;
 
-/// Makes `steps` calls after a fresh unit of random number was pruned to the weather's floor. `reading` is held to the library.
+/// Makes `steps` calls after a fresh unit of random number was pruned to the weather's floor; its shape goes by the seed, odd or
+/// even. `reading` is held to the library.
 pub fn sequence(reading: Side, weather: &Weather, seed: u64, steps: usize, tally: &mut Tally) -> Result<(), String> {
     let mut random = Random::new(seed);
     let mut memory = random.bytes(MEMORY);
-    let first = Call::Fresh { number: 1 + random.below(8) as u32 };
+    let first = Call::Fresh { number: 1 + random.below(8) as u32, shape: (seed % 2) as u8 };
     let second = Call::Prune { epoch: 1, position: weather.floor };
     for step in 0..steps {
         let call = match step {

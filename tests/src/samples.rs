@@ -1,41 +1,55 @@
 //! Units to try calls on: fresh, with pages of each kind, half full, full, pruned, ended, sealed for good.
 
 use crate::call::{Call, Outputs};
-use crate::unit::{Page, Unit, POSITIONS, SLOTS};
+use crate::unit::{Page, Shape, Unit, POSITIONS};
 
 /// Something in the outputs that no call gives.
 pub const UNTOUCHED: Outputs = Outputs { kind: 0xEE, start: 0xDEAD_0001, length: 0xDEAD_0002, edge: u64::MAX };
 
-fn unit(number: u32, sealed: u32, floor: u64, slots: impl IntoIterator<Item = (u64, Page)>) -> Unit {
-    Unit { number, sealed, floor, slots: slots.into_iter().collect() }
-}
-
-/// A page for the slot with this index: data of each length, junk and trimmed.
-fn mixed(index: u64) -> Page {
+/// A page for the slot with this index: data of many lengths, junk and trimmed.
+fn mixed(shape: Shape, index: u64) -> Page {
+    let longest = shape.page() as u64;
     match index % 5 {
         3 => Page::Junk,
         4 => Page::Trimmed,
-        _ => Page::Data((0..index % 33).map(|byte| (255 - 7 * byte) as u8).collect()),
+        _ => Page::Data((0..(index * longest / 32) % (longest + 1)).map(|byte| 255 - 3 * byte as u8).collect()),
     }
 }
 
-pub fn units() -> Vec<(&'static str, Unit)> {
-    let all = SLOTS as u64;
-    let full_page = || Page::Data(vec![0xFF; 32]);
+/// The samples of both shapes.
+pub fn units() -> Vec<(String, Unit)> {
+    let named = |shape| move |(name, unit)| (format!("{shape:?}, {name}"), unit);
+    Shape::BOTH.into_iter().flat_map(|shape| of_shape(shape).into_iter().map(named(shape))).collect()
+}
+
+fn of_shape(shape: Shape) -> Vec<(&'static str, Unit)> {
+    let all = shape.slots() as u64;
+    let mixed = |index| mixed(shape, index);
+    let full_page = || Page::Data(vec![0xFF; shape.page()]);
+    let unit = |number, sealed, floor, slots: Vec<(u64, Page)>| Unit {
+        shape,
+        number,
+        sealed,
+        floor,
+        slots: slots.into_iter().collect(),
+    };
     vec![
-        ("fresh", unit(1, 0, 0, [])),
-        ("one empty page", unit(2, 0, 0, [(0, Page::Data(Vec::new()))])),
-        ("pages of each kind", unit(3, 1, 5, [(5, Page::Junk), (7, full_page()), (8, Page::Trimmed), (300, mixed(1))])),
-        ("half full", unit(4, 1, 3, (0..all / 2).map(|i| (3 + 2 * i, mixed(i))))),
-        ("nearly full", unit(4, 6, 0, (0..all - 1).map(|i| (2 * i, mixed(i))))),
-        ("full of data", unit(5, 0, 0, (0..all).map(|i| (i, full_page())))),
-        ("full and mixed", unit(6, 2, 10, (0..all).map(|i| (10 + 3 * i, mixed(i))))),
-        ("full of trimmed", unit(7, 0, 1, (0..all).map(|i| (1 + i, Page::Trimmed)))),
-        ("pruned", unit(8, 0, 1 << 33, [])),
-        ("pruned to the end", unit(1, 3, POSITIONS, [])),
-        ("at the last position", unit(2, 0, POSITIONS - 2, [(POSITIONS - 1, full_page())])),
-        ("sealed up to the last epoch but one", unit(3, u32::MAX - 1, 0, (0..9).map(|i| (i, mixed(i))))),
-        ("sealed for good", unit(4, u32::MAX, 0, (0..9).map(|i| (i, mixed(i))))),
+        ("fresh", unit(1, 0, 0, vec![])),
+        ("one empty page", unit(2, 0, 0, vec![(0, Page::Data(Vec::new()))])),
+        (
+            "pages of each kind",
+            unit(3, 1, 5, vec![(5, Page::Junk), (7, full_page()), (8, Page::Trimmed), (300, mixed(1))]),
+        ),
+        ("half full", unit(4, 1, 3, (0..all / 2).map(|i| (3 + 2 * i, mixed(i))).collect())),
+        ("nearly full", unit(4, 6, 0, (0..all - 1).map(|i| (2 * i, mixed(i))).collect())),
+        ("full of data", unit(5, 0, 0, (0..all).map(|i| (i, full_page())).collect())),
+        ("full and mixed", unit(6, 2, 10, (0..all).map(|i| (10 + 3 * i, mixed(i))).collect())),
+        ("full of trimmed", unit(7, 0, 1, (0..all).map(|i| (1 + i, Page::Trimmed)).collect())),
+        ("pruned", unit(8, 0, 1 << 33, vec![])),
+        ("pruned to the end", unit(1, 3, POSITIONS, vec![])),
+        ("at the last position", unit(2, 0, POSITIONS - 2, vec![(POSITIONS - 1, full_page())])),
+        ("sealed up to the last epoch but one", unit(3, u32::MAX - 1, 0, (0..9).map(|i| (i, mixed(i))).collect())),
+        ("sealed for good", unit(4, u32::MAX, 0, (0..9).map(|i| (i, mixed(i))).collect())),
     ]
 }
 

@@ -94,7 +94,7 @@ pub fn after(paint: u8, memory: &[u8], call: &Call, mut outputs: Outputs) -> (Af
     let mem = memory.as_mut_ptr() as u64;
     let len = memory.len() as u64;
     let (function, words): (*const c_void, Words) = match *call {
-        Call::Fresh { number } => (c::unit_fresh as _, [mem, len, number.into(), 0, 0, 0, 0, 0]),
+        Call::Fresh { number, shape } => (c::unit_fresh as _, [mem, len, number.into(), shape.into(), 0, 0, 0, 0]),
         Call::Write { epoch, position, kind, ref data } => {
             let (bytes, length) = (data.as_ptr() as u64, data.len() as u64);
             (c::unit_write as _, [mem, len, epoch.into(), position, kind.into(), bytes, length, 0])

@@ -4,10 +4,38 @@ use std::collections::BTreeMap;
 
 /// Positions are below this.
 pub const POSITIONS: u64 = 1 << 40;
-/// Slots of a unit.
-pub const SLOTS: usize = 128;
-/// Bytes of a data page, at most.
-pub const PAGE: usize = 32;
+
+/// A unit's shape, which its memory names by a byte.
+#[derive(Clone, Copy, PartialEq, Eq, Debug)]
+pub enum Shape {
+    Small = 0,
+    Large = 1,
+}
+
+impl Shape {
+    pub const BOTH: [Shape; 2] = [Shape::Small, Shape::Large];
+
+    /// The shape that a byte names, if any.
+    pub fn named(byte: u8) -> Option<Shape> {
+        Shape::BOTH.into_iter().find(|shape| *shape as u8 == byte)
+    }
+
+    /// Slots of a unit.
+    pub const fn slots(self) -> usize {
+        match self {
+            Shape::Small => 128,
+            Shape::Large => 64,
+        }
+    }
+
+    /// Bytes of a data page, at most.
+    pub const fn page(self) -> usize {
+        match self {
+            Shape::Small => 32,
+            Shape::Large => 80,
+        }
+    }
+}
 
 /// The numbers that a unit answers where it refuses.
 #[derive(Clone, Copy, PartialEq, Eq, PartialOrd, Ord, Debug)]
@@ -20,6 +48,7 @@ pub enum Refusal {
     Written = 6,
     Unwritten = 7,
     Full = 8,
+    Layout = 10,
     Nobody = 17,
 }
 
@@ -40,16 +69,20 @@ pub enum Page {
 
 #[derive(Clone, PartialEq, Eq, Debug)]
 pub struct Unit {
-    pub number: u32,
+    pub shape: Shape,
+    pub number: u8,
     pub sealed: u32,
     pub floor: u64,
     pub slots: BTreeMap<u64, Page>,
 }
 
 impl Unit {
-    pub fn fresh(number: u32) -> Result<Unit, Refusal> {
-        lowest(&[(Refusal::Nobody, !(1..=8).contains(&number))])?;
-        Ok(Unit { number, sealed: 0, floor: 0, slots: BTreeMap::new() })
+    /// A unit of the shape that a byte names.
+    pub fn fresh(number: u32, shape: u8) -> Result<Unit, Refusal> {
+        let named = Shape::named(shape);
+        lowest(&[(Refusal::Nobody, !(1..=8).contains(&number)), (Refusal::Layout, named.is_none())])?;
+        let shape = named.ok_or(Refusal::Layout)?;
+        Ok(Unit { shape, number: number as u8, sealed: 0, floor: 0, slots: BTreeMap::new() })
     }
 
     /// The larger of the floor and the last used position plus 1.
@@ -68,7 +101,7 @@ impl Unit {
 
     /// Whether something new at this position finds no slot.
     fn full(&self, position: u64) -> bool {
-        !self.trimmed(position) && !self.written(position) && self.slots.len() >= SLOTS
+        !self.trimmed(position) && !self.written(position) && self.slots.len() >= self.shape.slots()
     }
 
     /// `page` is what is to be written, and nothing where that is no page.

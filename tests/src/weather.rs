@@ -2,7 +2,7 @@
 
 use crate::call::{Call, Outputs};
 use crate::random::Random;
-use crate::unit::{Unit, PAGE, POSITIONS};
+use crate::unit::{Shape, Unit, POSITIONS};
 
 /// How often each call is made, and what numbers it bears.
 pub struct Weather {
@@ -26,8 +26,8 @@ pub const WEATHERS: [Weather; 6] = [
 
 const EPOCHS: [u32; 6] = [0, 1, 2, 1 << 31, u32::MAX - 1, u32::MAX];
 const FAR: [u64; 10] = [0, 1, 255, 256, POSITIONS - 2, POSITIONS - 1, POSITIONS, POSITIONS + 1, u64::MAX - 1, u64::MAX];
-/// Lengths that a byte, or two, would cut to those of a page.
-const LONG: [usize; 6] = [255, 256, 256 + 32, 6168, 65536, 65536 + 7];
+/// Lengths that are one too many in a shape, and those that a byte, or two, would cut to those of a page.
+const LONG: [usize; 8] = [33, 81, 255, 256, 256 + 32, 6168, 65536, 65536 + 7];
 
 impl Weather {
     /// The next call on a unit.
@@ -41,9 +41,12 @@ impl Weather {
         let epoch = self.epoch(random, unit);
         let position = self.position(random, unit);
         match which {
-            0 => Call::Fresh { number: random.one_of(&[0, 1, 2, 3, 4, 5, 6, 7, 8, 9, 256 + 1, u32::MAX]) },
+            0 => Call::Fresh {
+                number: random.one_of(&[0, 1, 2, 3, 4, 5, 6, 7, 8, 9, 256 + 1, u32::MAX]),
+                shape: random.one_of(&[0, 0, 0, 1, 1, 1, 2, 255]),
+            },
             1 => {
-                let (kind, data) = page(random);
+                let (kind, data) = page(random, unit.shape);
                 Call::Write { epoch, position, kind, data }
             }
             2 => Call::Read { epoch, position },
@@ -97,13 +100,13 @@ impl Weather {
 }
 
 /// A kind and bytes to write: mostly a page that a unit takes.
-fn page(random: &mut Random) -> (u8, Vec<u8>) {
+fn page(random: &mut Random, shape: Shape) -> (u8, Vec<u8>) {
     match random.below(40) {
         0 => (random.next() as u8, Vec::new()),
-        1 => (random.one_of(&[0, 1, 2, 3, 4, 255]), any_bytes(random, 40)),
+        1 => (random.one_of(&[0, 1, 2, 3, 4, 255]), any_bytes(random, shape.page() + 8)),
         2 => (1, vec![7; random.one_of(&LONG)]),
         3..=9 => (2, Vec::new()),
-        _ => (1, any_bytes(random, PAGE)),
+        _ => (1, any_bytes(random, shape.page())),
     }
 }
 

@@ -1,14 +1,20 @@
 //! The comparison bites: readings that are wrong in one place each are told from the library by the same random calls.
 
 use station_tests::call::{After, Call, Outputs, Side};
-use station_tests::memory::{HEADER, MEMORY, SLOT};
+use station_tests::memory::{slot, HEADER, MEMORY};
 use station_tests::reading;
 use station_tests::run::{sequence, Tally};
+use station_tests::unit::Shape;
 use station_tests::weather::WEATHERS;
 
 /// Slots in use, as the header has them.
 fn count(memory: &[u8]) -> usize {
     usize::from(u16::from_le_bytes([memory[16], memory[17]]))
+}
+
+/// The shape that the memory names: the sequences only ever have good memory.
+fn shape(memory: &[u8]) -> Shape {
+    Shape::named(memory[1]).unwrap_or(Shape::Small)
 }
 
 fn junk_as_zeros(memory: &[u8], call: &Call, outputs: Outputs) -> After {
@@ -72,7 +78,7 @@ fn a_sealed_epoch_still_writes(memory: &[u8], call: &Call, outputs: Outputs) -> 
 
 fn full_before_written(memory: &[u8], call: &Call, outputs: Outputs) -> After {
     let mut after = reading::after(memory, call, outputs);
-    if after.answer == 6 && count(memory) == 128 {
+    if after.answer == 6 && count(memory) == shape(memory).slots() {
         after.answer = 8;
     }
     after
@@ -81,7 +87,7 @@ fn full_before_written(memory: &[u8], call: &Call, outputs: Outputs) -> After {
 fn page_before_position(memory: &[u8], call: &Call, outputs: Outputs) -> After {
     let mut after = reading::after(memory, call, outputs);
     if let Call::Write { data, .. } = call {
-        if after.answer == 2 && data.len() > 32 {
+        if after.answer == 2 && data.len() > shape(memory).page() {
             after.answer = 3;
         }
     }
@@ -99,7 +105,8 @@ fn lengths_cut_to_a_byte(memory: &[u8], call: &Call, outputs: Outputs) -> After 
 fn trims_keep_the_last_byte(memory: &[u8], call: &Call, outputs: Outputs) -> After {
     let mut after = reading::after(memory, call, outputs);
     if matches!(call, Call::Trim { .. }) && count(memory) == count(&after.memory) {
-        let lasts = (0..count(memory)).map(|slot| HEADER + slot * SLOT + SLOT - 1);
+        let size = slot(shape(memory));
+        let lasts = (1..=count(memory)).map(|slots| HEADER + slots * size - 1);
         lasts.for_each(|at| after.memory[at] = memory[at]);
     }
     after
@@ -108,7 +115,7 @@ fn trims_keep_the_last_byte(memory: &[u8], call: &Call, outputs: Outputs) -> Aft
 fn pruned_slots_are_left(memory: &[u8], call: &Call, outputs: Outputs) -> After {
     let mut after = reading::after(memory, call, outputs);
     if matches!(call, Call::Prune { .. }) {
-        let free = HEADER + count(&after.memory) * SLOT;
+        let free = HEADER + count(&after.memory) * slot(shape(memory));
         after.memory[free..].copy_from_slice(&memory[free..]);
     }
     after
@@ -122,6 +129,39 @@ fn one_bit_more(memory: &[u8], call: &Call, outputs: Outputs) -> After {
     after
 }
 
+fn every_page_is_short(memory: &[u8], call: &Call, outputs: Outputs) -> After {
+    match call {
+        Call::Write { data, .. } if data.len() > 32 => {
+            let after = reading::after(memory, call, outputs);
+            After { answer: if after.answer == 2 { 2 } else { 3 }, outputs, memory: memory.to_vec() }
+        }
+        _ => reading::after(memory, call, outputs),
+    }
+}
+
+fn half_as_many_slots(memory: &[u8], call: &Call, outputs: Outputs) -> After {
+    let after = reading::after(memory, call, outputs);
+    if matches!(call, Call::Write { .. }) && after.answer == 0 && count(memory) >= 64 {
+        return After { answer: 8, outputs, memory: memory.to_vec() };
+    }
+    after
+}
+
+fn fresh_units_are_small(memory: &[u8], call: &Call, outputs: Outputs) -> After {
+    match call {
+        Call::Fresh { number, shape: 1 } => reading::after(memory, &Call::Fresh { number: *number, shape: 0 }, outputs),
+        _ => reading::after(memory, call, outputs),
+    }
+}
+
+fn an_unknown_shape_is_nobody(memory: &[u8], call: &Call, outputs: Outputs) -> After {
+    let mut after = reading::after(memory, call, outputs);
+    if after.answer == 10 {
+        after.answer = 17;
+    }
+    after
+}
+
 /// Whether some sequence of the random calls tells this reading from the library.
 fn is_caught(wrong: Side) -> bool {
     let mut runs = WEATHERS.iter().flat_map(|weather| (0..3).map(move |seed| (weather, seed)));
@@ -130,7 +170,7 @@ fn is_caught(wrong: Side) -> bool {
 
 #[test]
 fn wrong_readings_are_caught() {
-    let wrong: [(&str, Side); 14] = [
+    let wrong: [(&str, Side); 18] = [
         ("junk_as_zeros", junk_as_zeros),
         ("junk_as_data", junk_as_data),
         ("payload_one_byte_late", payload_one_byte_late),
@@ -145,6 +185,10 @@ fn wrong_readings_are_caught() {
         ("trims_keep_the_last_byte", trims_keep_the_last_byte),
         ("pruned_slots_are_left", pruned_slots_are_left),
         ("one_bit_more", one_bit_more),
+        ("every_page_is_short", every_page_is_short),
+        ("half_as_many_slots", half_as_many_slots),
+        ("fresh_units_are_small", fresh_units_are_small),
+        ("an_unknown_shape_is_nobody", an_unknown_shape_is_nobody),
     ];
     for (name, side) in wrong {
         assert!(is_caught(side), "no random call tells the reading `{name}` from the library");

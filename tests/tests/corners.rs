@@ -33,7 +33,7 @@ fn everywhere(calls: impl Fn(u32, u64) -> Vec<Call>) {
         for epoch in epochs(&unit) {
             for position in positions(&unit) {
                 for call in calls(epoch, position) {
-                    agree(name, &memory, &call, UNTOUCHED);
+                    agree(&name, &memory, &call, UNTOUCHED);
                 }
             }
         }
@@ -49,8 +49,8 @@ fn reads_trims_and_prunes() {
 
 #[test]
 fn writes() {
-    let pages: [(u8, usize); 10] =
-        [(1, 0), (1, 1), (1, 32), (1, 33), (1, 256), (2, 0), (2, 1), (2, 33), (0, 0), (3, 0)];
+    let pages: [(u8, usize); 12] =
+        [(1, 0), (1, 1), (1, 32), (1, 33), (1, 80), (1, 81), (1, 256), (2, 0), (2, 1), (2, 33), (0, 0), (3, 0)];
     everywhere(|epoch, position| {
         let write = |(kind, length)| Call::Write { epoch, position, kind, data: vec![0xC3; length] };
         pages.map(write).to_vec()
@@ -61,7 +61,7 @@ fn writes() {
 fn seals() {
     for (name, unit) in units() {
         for epoch in epochs(&unit) {
-            agree(name, &print(&unit), &Call::Seal { epoch }, UNTOUCHED);
+            agree(&name, &print(&unit), &Call::Seal { epoch }, UNTOUCHED);
         }
     }
 }
@@ -70,8 +70,27 @@ fn seals() {
 fn fresh_numbers() {
     for (name, unit) in units() {
         for number in (0..300).chain([1 << 16 | 1, 1 << 24 | 1, 1 << 31 | 1, u32::MAX]) {
-            let after = agree(name, &print(&unit), &Call::Fresh { number }, UNTOUCHED);
-            assert_eq!(after.answer, if (1..=8).contains(&number) { 0 } else { 17 }, "fresh {number}");
+            for shape in [0, 1] {
+                let after = agree(&name, &print(&unit), &Call::Fresh { number, shape }, UNTOUCHED);
+                assert_eq!(after.answer, if (1..=8).contains(&number) { 0 } else { 17 }, "fresh {number}");
+            }
+        }
+    }
+}
+
+#[test]
+fn fresh_shapes() {
+    for (name, unit) in units() {
+        for shape in 0..=255 {
+            for number in [0, 1, 8, 9] {
+                let after = agree(&name, &print(&unit), &Call::Fresh { number, shape }, UNTOUCHED);
+                let expected = match (shape, number) {
+                    (2.., _) => 10,
+                    (_, 0 | 9) => 17,
+                    _ => 0,
+                };
+                assert_eq!(after.answer, expected, "fresh {number} in shape {shape}");
+            }
         }
     }
 }
@@ -82,13 +101,13 @@ fn every_kind_and_length() {
         let memory = print(&unit);
         let (epoch, position) = (unit.sealed.saturating_add(1), unit.edge());
         for kind in 0..=255 {
-            for length in (0..=40).chain([64, 255, 256, 257, 288, 6168, 65536, 65568]) {
+            for length in (0..=88).chain([255, 256, 257, 288, 6168, 65536, 65568]) {
                 // long data of a kind that is none is tried for every sixteenth kind
-                if length > 40 && kind > 4 && kind % 16 != 0 {
+                if length > 88 && kind > 4 && kind % 16 != 0 {
                     continue;
                 }
                 let data = (0..length).map(|byte| byte as u8).collect();
-                agree(name, &memory, &Call::Write { epoch, position, kind, data }, UNTOUCHED);
+                agree(&name, &memory, &Call::Write { epoch, position, kind, data }, UNTOUCHED);
             }
         }
     }

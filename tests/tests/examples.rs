@@ -1,7 +1,8 @@
-//! The marked examples 1 to 9, on the reading and on the library. Each starts with a fresh unit 1.
+//! The marked examples 1 to 9, on the reading and on the library, in both shapes. Each starts with a fresh unit 1.
 
 use station_tests::call::{After, Call, Side};
 use station_tests::samples::UNTOUCHED;
+use station_tests::unit::Shape;
 use station_tests::{memory, proved, reading};
 
 const END: u64 = 1 << 40;
@@ -13,9 +14,9 @@ struct Unit {
 }
 
 impl Unit {
-    fn fresh(side: Side) -> Unit {
+    fn fresh(side: Side, shape: Shape) -> Unit {
         let mut unit = Unit { side, memory: vec![0x5A; memory::MEMORY] };
-        assert_eq!(unit.call(Call::Fresh { number: 1 }).answer, 0);
+        assert_eq!(unit.call(Call::Fresh { number: 1, shape: shape as u8 }).answer, 0);
         unit
     }
 
@@ -52,10 +53,23 @@ impl Unit {
     }
 }
 
-/// Runs one example on both sides.
+/// The numbers in which the shapes differ, as the examples have them: the longest page, and the slots.
+const SHAPES: [(Shape, usize, u64); 2] = [(Shape::Small, 32, 128), (Shape::Large, 80, 64)];
+
+/// Runs one example on both sides, in both shapes; it is told the longest page and the slots.
+fn on_all(example: fn(Unit, usize, u64)) {
+    for (shape, longest, slots) in SHAPES {
+        example(Unit::fresh(reading::after, shape), longest, slots);
+        example(Unit::fresh(proved::after, shape), longest, slots);
+    }
+}
+
+/// One that is the same in both shapes.
 fn on_both(example: fn(Unit)) {
-    example(Unit::fresh(reading::after));
-    example(Unit::fresh(proved::after));
+    for (shape, _, _) in SHAPES {
+        example(Unit::fresh(reading::after, shape));
+        example(Unit::fresh(proved::after, shape));
+    }
 }
 
 #[test]
@@ -80,17 +94,17 @@ fn example_3_epoch_0() {
 
 #[test]
 fn example_4_the_last_position() {
-    on_both(|mut unit| {
+    on_all(|mut unit, longest, _| {
         assert_eq!(unit.write(1, END - 1, 1), 0);
         assert_eq!(unit.write(1, END, 1), 2);
-        assert_eq!(unit.write(1, END, 33), 2);
+        assert_eq!(unit.write(1, END, longest + 1), 2);
     });
 }
 
 #[test]
 fn example_5_the_longest_page() {
-    on_both(|mut unit| assert_eq!(unit.write(1, 0, 32), 0));
-    on_both(|mut unit| assert_eq!(unit.write(1, 0, 33), 3));
+    on_all(|mut unit, longest, _| assert_eq!(unit.write(1, 0, longest), 0));
+    on_all(|mut unit, longest, _| assert_eq!(unit.write(1, 0, longest + 1), 3));
 }
 
 #[test]
@@ -115,14 +129,14 @@ fn example_7_trimming() {
 
 #[test]
 fn example_8_a_full_unit() {
-    on_both(|mut unit| {
-        for position in 0..128 {
+    on_all(|mut unit, _, slots| {
+        for position in 0..slots {
             assert_eq!(unit.write(1, position, 1), 0);
         }
-        assert_eq!(unit.write(1, 128, 1), 8);
+        assert_eq!(unit.write(1, slots, 1), 8);
         assert_eq!(unit.write(1, 0, 1), 6);
         assert_eq!(unit.prune(1), 0);
-        assert_eq!(unit.write(1, 128, 1), 0);
+        assert_eq!(unit.write(1, slots, 1), 0);
         assert_eq!(unit.read(0), 5);
     });
 }

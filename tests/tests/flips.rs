@@ -2,18 +2,20 @@
 
 use station_tests::call::Call;
 use station_tests::compare::agree;
-use station_tests::memory::{print, HEADER, MEMORY, SLOT};
+use station_tests::memory::{print, slot, HEADER, MEMORY};
 use station_tests::random::Random;
 use station_tests::samples::{probes, units, UNTOUCHED};
+use station_tests::unit::Unit;
 
 fn flip(memory: &mut [u8], bit: usize) {
     memory[bit / 8] ^= 1 << (bit % 8);
 }
 
 /// The bits of the header, of the first three slots, of the last used slot and of the slot after it.
-fn bits_that_matter(used: usize) -> Vec<usize> {
-    let slot = |index: usize| (HEADER + index * SLOT)..(HEADER + (index + 1) * SLOT).min(MEMORY);
-    let places = [0..HEADER, slot(0), slot(1), slot(2), slot(used.max(1) - 1), slot(used.min(127))];
+fn bits_that_matter(unit: &Unit) -> Vec<usize> {
+    let (used, size) = (unit.slots.len(), slot(unit.shape));
+    let slot = |index: usize| (HEADER + index * size)..(HEADER + (index + 1) * size);
+    let places = [0..HEADER, slot(0), slot(1), slot(2), slot(used.max(1) - 1), slot(used.min(unit.shape.slots() - 1))];
     places.into_iter().flat_map(|bytes| bytes.start * 8..bytes.end * 8).collect()
 }
 
@@ -22,8 +24,8 @@ fn one_bit_that_matters_and_every_call() {
     for (name, unit) in units() {
         let mut memory = print(&unit);
         let mut calls = probes(&unit);
-        calls.push(Call::Fresh { number: 8 });
-        for bit in bits_that_matter(unit.slots.len()) {
+        calls.extend([0, 1].map(|shape| Call::Fresh { number: 8, shape }));
+        for bit in bits_that_matter(&unit) {
             flip(&mut memory, bit);
             for call in &calls {
                 agree(&format!("{name}, bit {bit} flipped"), &memory, call, UNTOUCHED);
@@ -36,7 +38,7 @@ fn one_bit_that_matters_and_every_call() {
 #[test]
 fn each_bit_of_a_memory() {
     for (name, unit) in units() {
-        if !["pages of each kind", "full and mixed"].contains(&name) {
+        if !["pages of each kind", "full and mixed"].iter().any(|kept| name.ends_with(kept)) {
             continue;
         }
         let mut memory = print(&unit);
@@ -60,7 +62,7 @@ fn two_random_bits() {
         let mut random = Random::new(seed);
         let mut memory = print(unit);
         let calls = probes(unit);
-        let near = bits_that_matter(unit.slots.len());
+        let near = bits_that_matter(unit);
         for turn in 0..3000 {
             let first = random.one_of(&near);
             let second = if turn % 2 == 0 { random.one_of(&near) } else { random.below(8 * MEMORY as u64) as usize };

@@ -2,6 +2,7 @@
 
 use station_tests::layouts::bytes::{parse, print};
 use station_tests::layouts::compare::{on, After, Call, Side};
+use station_tests::layouts::layout::BYTES;
 use station_tests::layouts::{desk, draw, reading};
 use station_tests::random::Random;
 
@@ -25,10 +26,10 @@ fn a_byte_left_over_is_taken(call: &Call, lent: u64, buffer: &[u8]) -> After {
 fn any_unit_section(call: &Call, lent: u64, buffer: &[u8]) -> After {
     let mut after = reading::after(call, lent, buffer);
     if let Call::Good { bytes } = call {
-        let cut = bytes.get(4).filter(|count| **count > 1 && 5 + usize::from(**count) <= bytes.len());
+        let cut = bytes.get(5).filter(|count| **count > 1 && 6 + usize::from(**count) <= bytes.len());
         if let Some(count) = cut {
-            let end = 4 + usize::from(*count);
-            let shorter = [&bytes[..4], &[count - 1], &bytes[5..end], &bytes[end + 1..]].concat();
+            let end = 5 + usize::from(*count);
+            let shorter = [&bytes[..5], &[count - 1], &bytes[6..end], &bytes[end + 1..]].concat();
             if parse(&shorter).is_some() {
                 after.answer = 0;
             }
@@ -79,7 +80,7 @@ fn refusals_clear_the_number(call: &Call, lent: u64, buffer: &[u8]) -> After {
 
 fn what_is_too_long_is_cut(call: &Call, lent: u64, buffer: &[u8]) -> After {
     let after = reading::after(call, lent, buffer);
-    let whole = reading::after(call, lent, &[0; 167]);
+    let whole = reading::after(call, lent, &[0; BYTES]);
     if matches!(call, Call::Plan { .. }) && after.answer == 10 && whole.answer == 0 {
         return After { answer: 10, number: lent, buffer: whole.buffer[..buffer.len()].to_vec() };
     }
@@ -92,6 +93,34 @@ fn any_epoch_is_taken(call: &Call, lent: u64, buffer: &[u8]) -> After {
         let (old, mut new) = (parse(held).expect("good"), parse(offered).expect("good"));
         new.epoch = old.epoch.saturating_add(1);
         after.answer = reading::after(&Call::Offer { held: held.clone(), offered: print(&new) }, lent, buffer).answer;
+    }
+    after
+}
+
+fn any_shape_is_good(call: &Call, lent: u64, buffer: &[u8]) -> After {
+    match call {
+        Call::Good { bytes } if bytes.len() > 4 => {
+            let small = [&bytes[..4], &[0], &bytes[5..]].concat();
+            reading::after(&Call::Good { bytes: small }, lent, buffer)
+        }
+        _ => reading::after(call, lent, buffer),
+    }
+}
+
+fn a_changed_shape_is_taken(call: &Call, lent: u64, buffer: &[u8]) -> After {
+    let mut after = reading::after(call, lent, buffer);
+    if let (Call::Offer { held, offered }, 12) = (call, after.answer) {
+        let (old, mut new) = (parse(held).expect("good"), parse(offered).expect("good"));
+        new.shape = old.shape;
+        after.answer = reading::after(&Call::Offer { held: held.clone(), offered: print(&new) }, lent, buffer).answer;
+    }
+    after
+}
+
+fn plans_are_of_small_units(call: &Call, lent: u64, buffer: &[u8]) -> After {
+    let mut after = reading::after(call, lent, buffer);
+    if matches!(call, Call::Plan { .. }) && after.answer == 0 {
+        after.buffer[4] = 0;
     }
     after
 }
@@ -115,7 +144,7 @@ fn caught(wrong: Side) -> Option<(u64, String)> {
 
 #[test]
 fn wrong_readings_are_caught() {
-    let wrong: [(&str, Side); 10] = [
+    let wrong: [(&str, Side); 13] = [
         ("sets_counted_from_one", sets_counted_from_one),
         ("a_byte_left_over_is_taken", a_byte_left_over_is_taken),
         ("any_unit_section", any_unit_section),
@@ -125,6 +154,9 @@ fn wrong_readings_are_caught() {
         ("refusals_clear_the_number", refusals_clear_the_number),
         ("what_is_too_long_is_cut", what_is_too_long_is_cut),
         ("any_epoch_is_taken", any_epoch_is_taken),
+        ("any_shape_is_good", any_shape_is_good),
+        ("a_changed_shape_is_taken", a_changed_shape_is_taken),
+        ("plans_are_of_small_units", plans_are_of_small_units),
         ("all_refused", all_refused),
     ];
     for (name, side) in wrong {

@@ -4,8 +4,8 @@ use station_tests::layouts::compare::{agree, Call};
 use station_tests::layouts::draw;
 use station_tests::random::Random;
 
-const EXAMPLE: [u8; 37] = [
-    1, 0, 0, 0, 3, 1, 2, 3, 3, 2, 1, 2, 2, 2, 3, 2, 1, 3, 2, 0, 0, 0, 0, 0, 0, 0, 0, 2, 10, 0, 0, 0, 0, 0, 0, 0, 1,
+const EXAMPLE: [u8; 38] = [
+    1, 0, 0, 0, 0, 3, 1, 2, 3, 3, 2, 1, 2, 2, 2, 3, 2, 1, 3, 2, 0, 0, 0, 0, 0, 0, 0, 0, 2, 10, 0, 0, 0, 0, 0, 0, 0, 1,
 ];
 
 const POSITIONS: [u64; 7] = [0, 9, 10, 11, (1 << 40) - 1, 1 << 40, u64::MAX];
@@ -30,9 +30,10 @@ fn example_10_and_every_byte_of_it_changed() {
         }
     }
     let epochs = 254 + 3 * 255;
+    let shapes = 1; // large units
     let starts = 254 + 4 * 255;
     let sets = 4; // {1,3} for the first, {1,3} for the second, {2,3} and {1,2} for the third: the same units stay in use
-    assert_eq!(still_good, epochs + starts + sets, "of {} changed bytes", EXAMPLE.len() * 255);
+    assert_eq!(still_good, epochs + shapes + starts + sets, "of {} changed bytes", EXAMPLE.len() * 255);
 }
 
 #[test]

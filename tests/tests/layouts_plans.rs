@@ -2,6 +2,7 @@
 
 use station_tests::layouts::bytes::print_sets;
 use station_tests::layouts::compare::{agree, Call};
+use station_tests::layouts::layout::BYTES;
 use station_tests::layouts::{desk, draw};
 use station_tests::random::Random;
 
@@ -23,7 +24,7 @@ fn plans_are_taken_by_the_holder() {
     let mut taken = 0;
     for seed in 0..200_000 {
         let (call, _) = draw::plan(&mut Random::new(seed));
-        let after = agree(&format!("seed {seed}"), &call, &[0; 167]);
+        let after = agree(&format!("seed {seed}"), &call, &[0; BYTES]);
         let Call::Plan { held, .. } = &call else { unreachable!("a plan was drawn") };
         if after.answer == 0 {
             assert_eq!(desk::offer(held, &after.buffer[..after.number as usize]), 0, "seed {seed}: {call:?}");
@@ -33,7 +34,7 @@ fn plans_are_taken_by_the_holder() {
     assert!(taken > 10_000, "only {taken} plans were fine");
 }
 
-const HELD: [u8; 20] = [1, 0, 0, 0, 2, 1, 2, 1, 2, 1, 2, 1, 0, 0, 0, 0, 0, 0, 0, 0];
+const HELD: [u8; 21] = [1, 0, 0, 0, 0, 2, 1, 2, 1, 2, 1, 2, 1, 0, 0, 0, 0, 0, 0, 0, 0];
 
 fn answer(drops: &[u8], sets: &[u8], edge: u64, room: usize) -> u8 {
     let held = [&HELD[..], &[1]].concat();
@@ -45,19 +46,19 @@ fn answer(drops: &[u8], sets: &[u8], edge: u64, room: usize) -> u8 {
 #[test]
 fn corners_by_hand() {
     let many = |last: u8| print_sets(&[vec![vec![3]; 254], vec![vec![last]]].concat());
-    assert_eq!(answer(&[2], &[], u64::MAX, 167), 0, "no new range: the edge changes nothing");
-    assert_eq!(answer(&[], &[0], u64::MAX, 167), 0, "a count of none is no new range");
-    assert_eq!(answer(&[], &[1, 1, 3], 1 << 40, 167), 9, "a new range would start at 2^40");
-    assert_eq!(answer(&[], &[1, 1, 3], u64::MAX, 167), 9);
-    assert_eq!(answer(&[], &[1, 1, 3], (1 << 40) - 1, 167), 0);
-    assert_eq!(answer(&[], &[1, 1, 3], 0, 32), 10, "33 bytes and no room for them");
-    assert_eq!(answer(&[], &[1, 1, 3], 0, 33), 0);
-    assert_eq!(answer(&[], &many(4), 0, 167), 14);
-    assert_eq!(answer(&[4], &many(4), 0, 167), 10, "a drop that the last of 255 sets names");
-    assert_eq!(answer(&[1, 2], &many(4), 0, 167), 13, "a lost set goes before a full layout");
-    assert_eq!(answer(&[1, 2, 4], &many(4), 0, 167), 10, "a bad drop goes before a lost set");
-    assert_eq!(answer(&[1, 2], &many(9), 0, 167), 10, "so does a bad set");
-    assert_eq!(answer(&[], &[1], 0, 167), 10, "a count and no set");
-    assert_eq!(answer(&[], &[1, 1, 3, 0], 0, 167), 10, "a byte left over");
-    assert_eq!(answer(&[7], &[], 0, 167), 0, "a unit that is not in the layout changes nothing");
+    assert_eq!(answer(&[2], &[], u64::MAX, BYTES), 0, "no new range: the edge changes nothing");
+    assert_eq!(answer(&[], &[0], u64::MAX, BYTES), 0, "a count of none is no new range");
+    assert_eq!(answer(&[], &[1, 1, 3], 1 << 40, BYTES), 9, "a new range would start at 2^40");
+    assert_eq!(answer(&[], &[1, 1, 3], u64::MAX, BYTES), 9);
+    assert_eq!(answer(&[], &[1, 1, 3], (1 << 40) - 1, BYTES), 0);
+    assert_eq!(answer(&[], &[1, 1, 3], 0, 33), 10, "34 bytes and no room for them");
+    assert_eq!(answer(&[], &[1, 1, 3], 0, 34), 0);
+    assert_eq!(answer(&[], &many(4), 0, BYTES), 14);
+    assert_eq!(answer(&[4], &many(4), 0, BYTES), 10, "a drop that the last of 255 sets names");
+    assert_eq!(answer(&[1, 2], &many(4), 0, BYTES), 13, "a lost set goes before a full layout");
+    assert_eq!(answer(&[1, 2, 4], &many(4), 0, BYTES), 10, "a bad drop goes before a lost set");
+    assert_eq!(answer(&[1, 2], &many(9), 0, BYTES), 10, "so does a bad set");
+    assert_eq!(answer(&[], &[1], 0, BYTES), 10, "a count and no set");
+    assert_eq!(answer(&[], &[1, 1, 3, 0], 0, BYTES), 10, "a byte left over");
+    assert_eq!(answer(&[7], &[], 0, BYTES), 0, "a unit that is not in the layout changes nothing");
 }

@@ -9,7 +9,7 @@ const STEPS: usize = 5_000;
 
 /// Each answer that each call can give to good memory of the right length.
 const POSSIBLE: [(&str, &[u8]); 6] = [
-    ("fresh", &[0, 17]),
+    ("fresh", &[0, 10, 17]),
     ("write", &[0, 2, 3, 4, 5, 6, 8]),
     ("read", &[0, 2, 4, 5, 7]),
     ("trim", &[0, 2, 4, 8]),

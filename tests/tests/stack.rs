@@ -1,12 +1,12 @@
-//! Every entry on a painted stack of 2,048 bytes, as a relay has it: good and bad memories, empty, half full and full, and every answer that the entry can give. It gives
+//! Every entry on a painted stack of 2,048 bytes, as a relay has it: good and bad memories of both shapes, empty, half full and full, and every answer that the entry can give. It gives
 //! what it gives on any other stack, the paint beyond stays, and no entry goes deeper than tools/stack counted.
 
 use station_tests::call::Call;
-use station_tests::memory::{parse, print, HEADER, MEMORY, SLOT};
+use station_tests::memory::{parse, print, slot, HEADER, MEMORY};
 use station_tests::reading;
 use station_tests::samples::{probes, units, UNTOUCHED};
 use station_tests::stack::{after, on_small_stack, PAINTS, PASSED, STACK};
-use station_tests::unit::{Unit, POSITIONS, SLOTS};
+use station_tests::unit::{Unit, POSITIONS};
 use std::collections::{BTreeMap, BTreeSet};
 use std::fs;
 use std::hint::black_box;
@@ -15,7 +15,7 @@ use std::path::Path;
 
 /// All answers of each entry, as include/station.h lists them.
 const ANSWERS: [(&str, &[u8]); 6] = [
-    ("fresh", &[0, 1, 17]),
+    ("fresh", &[0, 1, 10, 17]),
     ("prune", &[0, 1, 2, 4]),
     ("read", &[0, 1, 2, 4, 5, 7]),
     ("seal", &[0, 1, 4]),
@@ -47,18 +47,25 @@ fn bad_memories(unit: &Unit) -> Vec<(&'static str, Vec<u8>)> {
         ("all but its last byte", cut(MEMORY - 1)),
         ("a byte more", [cut(MEMORY), vec![0]].concat()),
         ("no unit's number", edited(0, 0)),
+        ("no shape", edited(1, 2)),
         ("a byte of the header's six", edited(HEADER - 1, 1)),
         ("another count", edited(16, unit.slots.len() as u8 ^ 1)),
         ("a first slot of no kind", edited(HEADER + 8, 9)),
     ];
     if let Some(last) = unit.slots.len().checked_sub(1) {
-        bad.push(("a last slot of no kind", edited(HEADER + last * SLOT + 8, 9)));
+        bad.push(("a last slot of no kind", edited(HEADER + last * slot(unit.shape) + 8, 9)));
     }
-    if unit.slots.len() < SLOTS {
+    if unit.slots.len() < unit.shape.slots() {
         bad.push(("a last byte that is not zero", edited(MEMORY - 1, 1)));
     }
     assert!(bad.iter().all(|(_, memory)| parse(memory).is_none()));
     bad
+}
+
+/// Fresh units of both shapes, and of one that is none.
+fn fresh_calls() -> Vec<Call> {
+    let numbers = [0, 1, 8, 9, u32::MAX];
+    numbers.into_iter().flat_map(|number| [0, 1, 2].map(|shape| Call::Fresh { number, shape })).collect()
 }
 
 /// Calls that a unit like this takes and refuses, for every reason that it has.
@@ -69,7 +76,7 @@ fn calls(unit: &Unit) -> Vec<Call> {
     let around = positions.iter().flat_map(|p| [p.saturating_sub(1), *p, p + 1]);
     let positions: BTreeSet<u64> = around.chain([POSITIONS - 1, POSITIONS, POSITIONS + 1, u64::MAX]).collect();
     let epochs = BTreeSet::from([0, unit.sealed, unit.sealed.saturating_add(1), u32::MAX]);
-    let mut calls: Vec<Call> = [0, 1, 8, 9, u32::MAX].map(|number| Call::Fresh { number }).to_vec();
+    let mut calls = fresh_calls();
     for epoch in epochs {
         calls.push(Call::Seal { epoch });
         for &position in &positions {
@@ -78,7 +85,7 @@ fn calls(unit: &Unit) -> Vec<Call> {
                 Call::Trim { epoch, position },
                 Call::Prune { epoch, position },
             ]);
-            for (kind, length) in [(1, 0), (1, 32), (1, 33), (2, 0), (2, 1), (3, 0)] {
+            for (kind, length) in [(1, 0), (1, 32), (1, 33), (1, 80), (1, 81), (2, 0), (2, 1), (3, 0)] {
                 calls.push(Call::Write { epoch, position, kind, data: vec![0xC3; length] });
             }
         }
@@ -113,11 +120,10 @@ fn every_entry_on_a_relays_stack() {
     let mut seen = Seen::default();
     for (name, unit) in units() {
         for call in calls(&unit) {
-            seen.call(name, &print(&unit), &call);
+            seen.call(&name, &print(&unit), &call);
         }
         for (flaw, memory) in bad_memories(&unit) {
-            let fresh = [0, 1, 8, 9].map(|number| Call::Fresh { number });
-            for call in probes(&unit).into_iter().chain(fresh) {
+            for call in probes(&unit).into_iter().chain(fresh_calls()) {
                 seen.call(&format!("{name}: {flaw}"), &memory, &call);
             }
         }

@@ -25,8 +25,8 @@ unfoldable pub readyAnswer : Client → ℕ
 readyAnswer c = lowest (readyChecks c)
 
 -- position and page come after them (the yard has its own 16 between)
-unfoldable pub beginAnswer : Client → Job → ℕ
-beginAnswer c j = lowest (readyChecks c ++ jobChecks j)
+unfoldable pub beginAnswer : Client → Job → ℕ → ℕ
+beginAnswer c j shape = lowest (readyChecks c ++ jobChecks j shape)
 
 -- the client with the operation
 unfoldable pub withJob : Client → Job → Client
@@ -44,11 +44,12 @@ withJob c j = record {
 }
 
 -- every operation first fetches the layout; a refusal uses no number, and nothing is sent
-unfoldable pub beginTurn : Client → Job → Turn
-beginTurn c j = cond (eqb (beginAnswer c j) 0) (sends (withJob c j) (plain Fetch)) (rests c)
+unfoldable pub beginTurn : Client → Job → ℕ → Turn
+beginTurn c j shape = cond (eqb (beginAnswer c j shape) 0) (sends (withJob c j) (plain Fetch)) (rests c)
 
-abbrev pub beginStep : Client → Job → Begun
-beginStep c j = record { answer = beginAnswer c j; turn = beginTurn c j }
+-- shape: that of the layout held by the yard in which it begins
+abbrev pub beginStep : Client → Job → ℕ → Begun
+beginStep c j shape = record { answer = beginAnswer c j shape; turn = beginTurn c j shape }
 
 -- 20: the client was told to give up. "Giving up at an idle client is fine and changes nothing"
 unfoldable pub giveUp : Client → Turn

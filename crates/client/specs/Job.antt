@@ -13,7 +13,7 @@ use Rattle.client.specs.declared.Work.{Work}
 use Rattle.client.specs.declared.Work.the-variants.{Append, Read, Fill, Trim, Prune, Reorganise}
 use Rattle.client.specs.declared.Change.{Change}
 use Rattle.client.specs.declared.state.Job.{Job}
-use Rattle.client.specs.Message.{pageLimit, noPage, junk}
+use Rattle.client.specs.Message.{pageLimit, dataLimit, noPage, junk}
 use Rattle.client.specs.Client.{noChange}
 
 -- 2: position of 2^40 or more; prune above 2^40
@@ -25,21 +25,21 @@ past (Trim p) = leb limit (p .0)
 past (Prune p) = ltb limit (p .0)
 past Reorganise = false
 
--- 3: data longer than 32
-abbrev pub tooLong : Work → ℕ → Bool
-tooLong Append len = ltb pageLimit len
-tooLong (Read p) len = false
-tooLong (Fill p) len = false
-tooLong (Trim p) len = false
-tooLong (Prune p) len = false
-tooLong Reorganise len = false
+-- 3: data longer than a page of the yard's shape holds
+abbrev pub tooLong : Work → ℕ → ℕ → Bool
+tooLong Append len shape = ltb (dataLimit shape) len
+tooLong (Read p) len shape = false
+tooLong (Fill p) len shape = false
+tooLong (Trim p) len shape = false
+tooLong (Prune p) len shape = false
+tooLong Reorganise len shape = false
 
 -- "Position and page (2, 3) are checked when an operation begins, after the yard's own checks"
-abbrev pub jobChecks : Job → List Check
-jobChecks j = 2 if past (j .work) ∷ 3 if tooLong (j .work) (j .len) ∷ []
+abbrev pub jobChecks : Job → ℕ → List Check
+jobChecks j shape = 2 if past (j .work) ∷ 3 if tooLong (j .work) (j .len) shape ∷ []
 
-unfoldable pub jobAnswer : Job → ℕ
-jobAnswer j = lowest (jobChecks j)
+unfoldable pub jobAnswer : Job → ℕ → ℕ
+jobAnswer j shape = lowest (jobChecks j shape)
 
 -- ---- what the client then keeps of it
 

@@ -1,5 +1,7 @@
 -- What a client sends and what is handed back to it.
 use Prim.Native.Nat.{ℕ}
+use mathlib.Core.Bool.{cond}
+use lib.Dec.{eqb}
 use lib.ListN.{replicate}
 use Rattle.num.specs.declared.Position.{Position}
 use Rattle.layout.specs.declared.Layout.{Layout}
@@ -12,9 +14,13 @@ use Rattle.client.specs.declared.Reply.{Reply}
 use Rattle.client.specs.declared.Response.{Response}
 use Rattle.client.specs.declared.Reply.the-variants.{Held, Given, Fine, Shown, Edge, Refused}
 
--- data pages hold 0 to 32 bytes
+-- a page has room for 80 bytes, whatever the yard's shape
 abbrev pub pageLimit : ℕ
-pageLimit = 32
+pageLimit = 80
+
+-- the bytes that a data page may hold in a yard of a shape: 0 small, 1 large
+unfoldable pub dataLimit : ℕ → ℕ
+dataLimit shape = cond (eqb shape 1) 80 32
 
 -- no page: what stands where none is given
 abbrev pub noPage : Page

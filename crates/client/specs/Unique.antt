@@ -72,14 +72,14 @@ number-of a r s = one
 pub ready-answer : (c : Client) (r s : ℕ) → r ≡ readyAnswer c → s ≡ readyAnswer c → r ≡ s
 ready-answer c r s = one
 
-pub job-answer : (j : Job) (r s : ℕ) → r ≡ jobAnswer j → s ≡ jobAnswer j → r ≡ s
-job-answer j r s = one
+pub job-answer : (j : Job) (shape r s : ℕ) → r ≡ jobAnswer j shape → s ≡ jobAnswer j shape → r ≡ s
+job-answer j shape r s = one
 
-pub begin-answer : (c : Client) (j : Job) (r s : ℕ) → r ≡ beginAnswer c j → s ≡ beginAnswer c j → r ≡ s
-begin-answer c j r s = one
+pub begin-answer : (c : Client) (j : Job) (shape r s : ℕ) → r ≡ beginAnswer c j shape → s ≡ beginAnswer c j shape → r ≡ s
+begin-answer c j shape r s = one
 
-pub begin : (c : Client) (j : Job) (r s : Begun) → r ≡ beginStep c j → s ≡ beginStep c j → r ≡ s
-begin c j r s = one
+pub begin : (c : Client) (j : Job) (shape : ℕ) (r s : Begun) → r ≡ beginStep c j shape → s ≡ beginStep c j shape → r ≡ s
+begin c j shape r s = one
 
 pub give-up : (c : Client) (r s : Turn) → r ≡ giveUp c → s ≡ giveUp c → r ≡ s
 give-up c r s = one

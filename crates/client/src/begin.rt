@@ -45,14 +45,14 @@ pub fn ready_answer(client: Client) -> u8
     )
 }
 
-// 18, 19, 2 or 3, and 0 where the operation begins.
-pub fn begin_answer(client: Client, job: Job) -> u8
-    ensures { λ r. ⌜ r ≡ beginAnswer client job ⌝ }
+// 18, 19, 2 or 3, and 0 where the operation begins in a yard of this shape.
+pub fn begin_answer(client: Client, job: Job, shape: u8) -> u8
+    ensures { λ r. ⌜ r ≡ beginAnswer client job shape ⌝ }
 {
     let stage = client.stage;
     let used = client.used;
     let busy = stage.is_busy();
-    let asked = job_answer(job);
+    let asked = job_answer(job, shape);
     pick(
         busy,
         Answer::BUSY,
@@ -88,10 +88,10 @@ pub(crate) fn with_job(client: Client, job: Job) -> Client
 }
 
 // Every operation first fetches the layout. A refusal uses no number and sends nothing.
-pub fn begin(client: Client, job: Job) -> Begun
-    ensures { λ r. ⌜ r ≡ beginStep client job ⌝ }
+pub fn begin(client: Client, job: Job, shape: u8) -> Begun
+    ensures { λ r. ⌜ r ≡ beginStep client job shape ⌝ }
 {
-    let answer = begin_answer(client, job);
+    let answer = begin_answer(client, job, shape);
     if answer != 0 {
         let turn = rests(client);
         return Begun { answer, turn };

@@ -3,11 +3,13 @@ ghost use mathlib.Core.Path.{_≡_};
 ghost use Prim.Native.Nat.{_≤_};
 ghost use lib.ListN.{length, take};
 ghost use Rattle.layout.specs.Value.{padded};
+ghost use Rattle.client.specs.Message.{pageLimit, dataLimit};
 ghost use Rattle.client.specs.Job.{past, tooLong, positionFor, pageFor, changeFor, dataPage, jobAnswer};
 use crate::Change;
 use crate::Page;
 use crate::Work;
 use crate::state::Job;
+use layout::Layout;
 use num::Position;
 use num::answer::Answer;
 use num::answer::pick;
@@ -27,12 +29,19 @@ pub(crate) fn is_past(work: Work) -> bool
     }
 }
 
-// Data longer than a page.
-pub(crate) fn is_too_long(work: Work, len: u8) -> bool
-    ensures { λ r. ⌜ r ≡ tooLong work len ⌝ }
+// The bytes that a data page may hold.
+fn data_limit(shape: u8) -> u8
+    ensures { λ r. ⌜ r ≡ dataLimit shape ⌝ }
+{
+    pick(shape == Layout::LARGE, Page::LARGE, Page::SMALL)
+}
+
+// Data longer than a page of the shape holds.
+pub(crate) fn is_too_long(work: Work, len: u8, shape: u8) -> bool
+    ensures { λ r. ⌜ r ≡ tooLong work len shape ⌝ }
 {
     match work {
-        Work::Append => Page::BYTES < len,
+        Work::Append => data_limit(shape) < len,
         Work::Read(_) => false,
         Work::Fill(_) => false,
         Work::Trim(_) => false,
@@ -41,13 +50,13 @@ pub(crate) fn is_too_long(work: Work, len: u8) -> bool
     }
 }
 
-// 2 or 3 where the operation asks for what no unit has, and 0 otherwise.
-pub fn job_answer(job: Job) -> u8
-    ensures { λ r. ⌜ r ≡ jobAnswer job ⌝ }
+// 2 or 3 where the operation asks for what no unit of the yard's shape has, and 0 otherwise.
+pub fn job_answer(job: Job, shape: u8) -> u8
+    ensures { λ r. ⌜ r ≡ jobAnswer job shape ⌝ }
 {
     let work = job.work;
     let past = is_past(work);
-    let long = is_too_long(work, job.len);
+    let long = is_too_long(work, job.len, shape);
     pick(past, Answer::POSITION, pick(long, Answer::PAGE, 0))
 }
 
@@ -66,11 +75,11 @@ pub(crate) fn position_for(work: Work) -> Position
 }
 
 // The first `count` bytes, and zeros behind them.
-fn kept(bytes: [u8; 32], count: usize) -> [u8; 32]
-    requires { ⌜ count ≤ 32 ⌝ }
-    ensures { λ r. ⌜ r ≡ padded 32 0 (take count bytes) ⌝ }
+fn kept(bytes: [u8; Page::ROOM], count: usize) -> [u8; Page::ROOM]
+    requires { ⌜ count ≤ pageLimit ⌝ }
+    ensures { λ r. ⌜ r ≡ padded pageLimit 0 (take count bytes) ⌝ }
 {
-    let mut out = [0u8; 32];
+    let mut out = [0u8; Page::ROOM];
     let mut i = 0;
     while i < count {
         out[i] = bytes[i];
@@ -80,12 +89,12 @@ fn kept(bytes: [u8; 32], count: usize) -> [u8; 32]
 }
 
 // The data page of an append.
-pub(crate) fn data_page(len: u8, bytes: [u8; 32]) -> Page
+pub(crate) fn data_page(len: u8, bytes: [u8; Page::ROOM]) -> Page
     ensures { λ r. ⌜ r ≡ dataPage len bytes ⌝ }
 {
     let n = size(len);
     let mut held = bytes;
-    if len <= Page::BYTES {
+    if n <= Page::ROOM {
         held = kept(bytes, n);
     }
     Page {
@@ -96,7 +105,7 @@ pub(crate) fn data_page(len: u8, bytes: [u8; 32]) -> Page
 }
 
 // The page an operation carries at first.
-pub(crate) fn page_for(work: Work, len: u8, bytes: [u8; 32]) -> Page
+pub(crate) fn page_for(work: Work, len: u8, bytes: [u8; Page::ROOM]) -> Page
     ensures { λ r. ⌜ r ≡ pageFor work len bytes ⌝ }
 {
     match work {

@@ -31,11 +31,11 @@ pub enum Ask {
     Start(Epoch, Position),
 }
 
-// Data or junk: `len` bytes, and blank past them.
+// Data or junk: `len` bytes, and blank past them. There is room for those of either shape.
 pub struct Page {
     pub kind: u8,
     pub len: u8,
-    pub bytes: [u8; 32],
+    pub bytes: [u8; Page::ROOM],
 }
 
 // A request: the page of a write and the layout of an offer are blank elsewhere.

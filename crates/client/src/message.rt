@@ -12,8 +12,14 @@ use num::Position;
 use num::Request;
 
 impl Page {
-    // Bytes that a data page may hold.
-    pub const BYTES: u8 = 32;
+    // Bytes that a page has room for.
+    pub const ROOM: usize = 80;
+
+    // Bytes that a data page may hold in a yard of small units.
+    pub const SMALL: u8 = 32;
+
+    // And of large ones.
+    pub const LARGE: u8 = 80;
 
     pub const DATA: u8 = 1;
 
@@ -26,7 +32,7 @@ impl Page {
         Page {
             kind: 0,
             len: 0,
-            bytes: [0u8; 32],
+            bytes: [0u8; Page::ROOM],
         }
     }
 
@@ -37,7 +43,7 @@ impl Page {
         Page {
             kind: Page::JUNK,
             len: 0,
-            bytes: [0u8; 32],
+            bytes: [0u8; Page::ROOM],
         }
     }
 }

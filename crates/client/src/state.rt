@@ -17,7 +17,7 @@ use num::Request;
 pub struct Job {
     pub work: Work,
     pub len: u8,
-    pub bytes: [u8; 32],
+    pub bytes: [u8; Page::ROOM],
     pub change: Change,
 }
 
@@ -52,12 +52,12 @@ impl Job {
         Job {
             work,
             len: 0,
-            bytes: [0u8; 32],
+            bytes: [0u8; Page::ROOM],
             change,
         }
     }
 
-    pub fn append(len: u8, bytes: [u8; 32]) -> Job
+    pub fn append(len: u8, bytes: [u8; Page::ROOM]) -> Job
         ensures { λ r. ⌜ r ≡ appendOf len bytes ⌝ }
     {
         let change = Change::blank();
@@ -75,7 +75,7 @@ impl Job {
         Job {
             work: Work::Reorganise,
             len: 0,
-            bytes: [0u8; 32],
+            bytes: [0u8; Page::ROOM],
             change,
         }
     }

@@ -70,6 +70,7 @@ span-count n (us ∷ new) e = rw (lt-ltb 0 n (omega arith))
 abbrev pub assembled : Layout → List ℕ → Wish → Layout
 assembled held drops w = record {
   epoch = record { 0 = held .epoch .0 + 1 };
+  shape = held .shape;
   «set_count» = held .«set_count» + w .count;
   sets = sets (map (thinned drops) (held .sets)) (held .«set_count») (take (w .count) (w .sets));
   «range_count» = held .«range_count» + cond (ltb 0 (w .count)) 1 0;
@@ -98,6 +99,7 @@ module _ (lay : Lay) (drops : List ℕ) (w : Wish) (g : Good lay) (good-wish : g
       let all-ranges = plan-ranges (lay .spans) (w .count) (newOf w) counted (fits .spans-fit) in
       λ i. record {
         epoch = record { 0 = lay .epoch + 1 };
+        shape = lay .shape;
         «set_count» = set-count i;
         sets = all-sets i;
         «range_count» = range-count i;

@@ -14,7 +14,7 @@ use Rattle.layout.specs.declared.Range.{Range}
 use Rattle.layout.specs.Lay.{good, goodSets, firstAtZero, goodSpans, used}
 use Rattle.layout.specs.Value.{layOf, spanIn, tidy, tidyChains, blankRanges, goodValue}
 use Rattle.layout.proofs.Bools.{and-intro, same-test}
-use Rattle.layout.proofs.Goodness.{eight, Good, good-says, says-good, Tidy, tidy-says, says-tidy}
+use Rattle.layout.proofs.Goodness.{nine, Good, good-says, says-good, Tidy, tidy-says, says-tidy}
 
 pub first-range : (m : ℕ) (d : Range) (rs : List Range) → 0 < length rs → firstAtZero (map spanIn (take m rs)) ≡ (leb 1 m && eqb (getD rs 0 d .start .0) 0)
 unfolding firstAtZero
@@ -33,7 +33,7 @@ spans-counted l h = simp (length-map, length-take) (omega arith)
 -- the tests in the order in which the code makes them
 abbrev pub tests : Layout → Range → Bool
 tests l d =
-    leb 1 (l .epoch .0) && leb (l .«set_count») 16 && leb 1 (l .«range_count») && leb (l .«range_count») 8 && eqb (getD (l .ranges) 0 d .start .0) 0
+    leb 1 (l .epoch .0) && leb (l .shape) 1 && leb (l .«set_count») 16 && leb 1 (l .«range_count») && leb (l .«range_count») 8 && eqb (getD (l .ranges) 0 d .start .0) 0
     && (goodSets (layOf l .sets) && tidyChains (l .«set_count») (l .sets)) && (goodSpans 0 (layOf l .spans) && blankRanges (drop (l .«range_count») (l .ranges)))
     && eqb (used (layOf l .spans)) (l .«set_count»)
 
@@ -45,25 +45,26 @@ module _ (l : Layout) (d : Range) (room : length (l .sets) ≡ 16) (spans-room :
   enough : l .epoch .0 ≤ lastEpoch → tests l d ≡ true → goodValue l ≡ true
   unfolding goodValue layOf
   enough fits h =
-      let t = eight (leb 1 (l .epoch .0)) (leb (l .«set_count») 16) (leb 1 (l .«range_count»)) (leb (l .«range_count») 8) (eqb (getD (l .ranges) 0 d .start .0) 0)
+      let t = nine (leb 1 (l .epoch .0)) (leb (l .shape) 1) (leb (l .«set_count») 16) (leb 1 (l .«range_count»)) (leb (l .«range_count») 8) (eqb (getD (l .ranges) 0 d .start .0) 0)
       (goodSets (layOf l .sets) && tidyChains (l .«set_count») (l .sets)) (goodSpans 0 (layOf l .spans) && blankRanges (drop (l .«range_count») (l .ranges)))
       (eqb (used (layOf l .spans)) (l .«set_count»)) h in
-      let few : l .«set_count» ≤ 16 = leb-true _ _ (t .1) in
-      let spans-few : l .«range_count» ≤ 8 = leb-true _ _ (t .3) in
-      let sets = and-both (goodSets (layOf l .sets)) (tidyChains (l .«set_count») (l .sets)) (t .5) in
-      let spans = and-both (goodSpans 0 (layOf l .spans)) (blankRanges (drop (l .«range_count») (l .ranges))) (t .6) in
+      let few : l .«set_count» ≤ 16 = leb-true _ _ (t .2) in
+      let spans-few : l .«range_count» ≤ 8 = leb-true _ _ (t .4) in
+      let sets = and-both (goodSets (layOf l .sets)) (tidyChains (l .«set_count») (l .sets)) (t .6) in
+      let spans = and-both (goodSpans 0 (layOf l .spans)) (blankRanges (drop (l .«range_count») (l .ranges))) (t .7) in
       let counted : length (layOf l .sets) ≡ l .«set_count» = sets-counted l (omega arith) in
       let spans-are : length (layOf l .spans) ≡ l .«range_count» = spans-counted l (omega arith) in
       and-intro (good (layOf l)) (tidy l)
       (says-good (layOf l) (record {
         low = leb-true _ _ (t .0);
         high = fits;
+        known = leb-true _ _ (t .1);
         sets-few = rw counted few;
         spans-few = rw spans-are spans-few;
         sets-good = sets .0;
-        first-zero = first-is ∙ and-intro (leb 1 (l .«range_count»)) (eqb (getD (l .ranges) 0 d .start .0) 0) (t .2) (t .4);
+        first-zero = first-is ∙ and-intro (leb 1 (l .«range_count»)) (eqb (getD (l .ranges) 0 d .start .0) 0) (t .3) (t .5);
         spans-good = spans .0;
-        all-used = eqb-true _ _ (t .7) ∙ sym counted;
+        all-used = eqb-true _ _ (t .8) ∙ sym counted;
       }))
       (says-tidy l (record { room = room; few = few; chains = sets .1; spans-room = spans-room; spans-few = spans-few; blanks = spans .1 }))
 
@@ -75,7 +76,7 @@ module _ (l : Layout) (d : Range) (room : length (l .sets) ≡ 16) (spans-room :
       let t : Tidy l = tidy-says l (p .1) in
       let first = and-both (leb 1 (l .«range_count»)) (eqb (getD (l .ranges) 0 d .start .0) 0) (sym first-is ∙ g .first-zero) in
       let counted : length (layOf l .sets) ≡ l .«set_count» = sets-counted l (omega (arith, t)) in
-      rw (le-leb 1 (l .epoch .0) (g .low), le-leb (l .«set_count») 16 (t .few), first .0, le-leb (l .«range_count») 8 (t .spans-few), first .1)
+      rw (le-leb 1 (l .epoch .0) (g .low), le-leb (l .shape) 1 (g .known), le-leb (l .«set_count») 16 (t .few), first .0, le-leb (l .«range_count») 8 (t .spans-few), first .1)
       (rw (g .sets-good, t .chains, g .spans-good, t .blanks) (eq-eqb (used (layOf l .spans)) (l .«set_count») (g .all-used ∙ counted)))
 
   pub decided : l .epoch .0 ≤ lastEpoch → tests l d ≡ goodValue l

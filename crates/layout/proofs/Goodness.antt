@@ -8,7 +8,7 @@ use lib.ListN.{length, drop}
 use Rattle.num.specs.Limits.{lastEpoch}
 use Rattle.num.proofs.Tests.{false-true}
 use Rattle.layout.specs.declared.Layout.{Layout}
-use Rattle.layout.specs.Lay.{Lay, good, goodSets, firstAtZero, goodSpans, used, setsLimit, rangesLimit}
+use Rattle.layout.specs.Lay.{Lay, good, goodSets, firstAtZero, goodSpans, used, lastShape, setsLimit, rangesLimit}
 use Rattle.layout.specs.Value.{tidy, tidyChains, blankRanges}
 
 -- a conjunction's parts
@@ -21,16 +21,18 @@ six true true false d e f h = absurd (false-true h)
 six true false c d e f h = absurd (false-true h)
 six false b c d e f h = absurd (false-true h)
 
-pub eight : (a b c d e f g i : Bool) → (a && b && c && d && e && f && g && i) ≡ true
-    → (a ≡ true) × (b ≡ true) × (c ≡ true) × (d ≡ true) × (e ≡ true) × (f ≡ true) × (g ≡ true) × (i ≡ true)
-eight true true c d e f g i h = let t = six c d e f g i h in (refl, refl, t .0, t .1, t .2, t .3, t .4, t .5)
-eight true false c d e f g i h = absurd (false-true h)
-eight false b c d e f g i h = absurd (false-true h)
+pub nine : (a b c d e f g i j : Bool) → (a && b && c && d && e && f && g && i && j) ≡ true
+    → (a ≡ true) × (b ≡ true) × (c ≡ true) × (d ≡ true) × (e ≡ true) × (f ≡ true) × (g ≡ true) × (i ≡ true) × (j ≡ true)
+nine true true true d e f g i j h = let t = six d e f g i j h in (refl, refl, refl, t .0, t .1, t .2, t .3, t .4, t .5)
+nine true true false d e f g i j h = absurd (false-true h)
+nine true false c d e f g i j h = absurd (false-true h)
+nine false b c d e f g i j h = absurd (false-true h)
 
--- limits kept, epoch at least 1, sets good, first start 0, starts rising, the ranges use all sets
+-- limits kept, epoch at least 1, shape known, sets good, first start 0, starts rising, the ranges use all sets
 pub record Good (l : Lay) : Type 0 where
   pub low : 1 ≤ l .epoch
   pub high : l .epoch ≤ lastEpoch
+  pub known : l .shape ≤ lastShape
   pub sets-few : length (l .sets) ≤ setsLimit
   pub spans-few : length (l .spans) ≤ rangesLimit
   pub sets-good : goodSets (l .sets) ≡ true
@@ -41,23 +43,24 @@ pub record Good (l : Lay) : Type 0 where
 pub good-says : (l : Lay) → good l ≡ true → Good l
 unfolding good
 good-says l h =
-    let t = eight (leb 1 (l .epoch)) (leb (l .epoch) lastEpoch) (leb (length (l .sets)) setsLimit) (leb (length (l .spans)) rangesLimit)
+    let t = nine (leb 1 (l .epoch)) (leb (l .epoch) lastEpoch) (leb (l .shape) lastShape) (leb (length (l .sets)) setsLimit) (leb (length (l .spans)) rangesLimit)
     (goodSets (l .sets)) (firstAtZero (l .spans)) (goodSpans 0 (l .spans)) (eqb (used (l .spans)) (length (l .sets))) h in
     record {
       low = leb-true _ _ (t .0);
       high = leb-true _ _ (t .1);
-      sets-few = leb-true _ _ (t .2);
-      spans-few = leb-true _ _ (t .3);
-      sets-good = t .4;
-      first-zero = t .5;
-      spans-good = t .6;
-      all-used = eqb-true _ _ (t .7);
+      known = leb-true _ _ (t .2);
+      sets-few = leb-true _ _ (t .3);
+      spans-few = leb-true _ _ (t .4);
+      sets-good = t .5;
+      first-zero = t .6;
+      spans-good = t .7;
+      all-used = eqb-true _ _ (t .8);
     }
 
 pub says-good : (l : Lay) → Good l → good l ≡ true
 unfolding good
 says-good l g =
-    rw (le-leb 1 (l .epoch) (g .low), le-leb (l .epoch) lastEpoch (g .high), le-leb (length (l .sets)) setsLimit (g .sets-few), le-leb (length (l .spans)) rangesLimit (g .spans-few))
+    rw (le-leb 1 (l .epoch) (g .low), le-leb (l .epoch) lastEpoch (g .high), le-leb (l .shape) lastShape (g .known), le-leb (length (l .sets)) setsLimit (g .sets-few), le-leb (length (l .spans)) rangesLimit (g .spans-few))
     (rw (g .sets-good, g .first-zero, g .spans-good) (eq-eqb (used (l .spans)) (length (l .sets)) (g .all-used)))
 
 -- counts within the arrays, and blank past every count

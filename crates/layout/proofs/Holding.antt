@@ -1,7 +1,7 @@
 -- What the holder answers and holds, each case of the rule. An offer that is installed is good, of the next epoch, and a lawful successor.
 use Prim.Native.Nat.{ℕ, _+_}
-use mathlib.Core.Bool.{true, false, _&&_, not, cond}
-use mathlib.Core.Path.{_≡_, sym}
+use mathlib.Core.Bool.{Bool, true, false, _&&_, not, cond}
+use mathlib.Core.Path.{_≡_, refl, sym}
 use native.Mathlib.Omega.{arith}
 use borrow.Author.Tests.{eq-eqb, ne-eqb, eqb-true, not-false}
 use lib.Dec.{eqb}
@@ -10,6 +10,7 @@ use Rattle.layout.specs.declared.Layout.{Layout}
 use Rattle.layout.specs.Value.{layOf, goodValue, blank}
 use Rattle.layout.specs.Successor.{lawful}
 use Rattle.layout.specs.Holder.{offerAnswer, offeredTo, fetchedFrom}
+use Rattle.layout.proofs.Succession.{shape-kept}
 
 module _ (held offered : Layout) where
   pub installed : offerAnswer held offered ≡ 0 → record { answer = 0; held = offered } ≡ offeredTo held offered
@@ -37,6 +38,15 @@ module _ (held offered : Layout) where
       let r₃ = cond-zero (not d) 12 0 (omega arith) (r₂ .1) in
       let g = and-both (goodValue held) (goodValue offered) (not-false a (r₁ .0)) in
       record { held-good = g .0; good = g .1; next = eqb-true _ _ (not-false b (r₂ .0)); follows = not-false d (r₃ .0) }
+
+  -- whatever is offered, the shape of what is held stays
+  pub shape-stays : offeredTo held offered .held .shape ≡ held .shape
+  unfolding offeredTo layOf
+  shape-stays = go (eqb (offerAnswer held offered) 0) refl
+    where
+      go : (b : Bool) → eqb (offerAnswer held offered) 0 ≡ b → cond b offered held .shape ≡ held .shape
+      go true e = shape-kept (layOf held) (layOf offered) (offer-fine (eqb-true _ _ e) .follows)
+      go false e = refl
 
   pub fine-offer : Installs → offerAnswer held offered ≡ 0
   unfolding offerAnswer

@@ -141,16 +141,16 @@ unfolding spansAt
 spans-length zero xs = refl
 spans-length (suc n) xs = ap suc (spans-length n (drop 9 xs))
 
-module _ (b : List ℕ) (epoch skipped n at : ℕ) (cs : List Chain) (past m : ℕ) (rs : List Range) where
-  pub parsed-is : epoch ≡ numberAt 4 0 b → skipped ≡ getD b 4 0 → at ≡ 5 + skipped → n ≡ getD b at 0
+module _ (b : List ℕ) (epoch shape skipped n at : ℕ) (cs : List Chain) (past m : ℕ) (rs : List Range) where
+  pub parsed-is : epoch ≡ numberAt 4 0 b → shape ≡ getD b 4 0 → skipped ≡ getD b 5 0 → at ≡ 6 + skipped → n ≡ getD b at 0
       → cs ≡ padded 16 noChain (map chainOf (setsAt n (drop (at + 1) b))) → drop past b ≡ pastSets n (drop (at + 1) b)
       → m ≡ getD b past 0 → rs ≡ padded 8 noRange (map rangeOf (spansAt m (drop (past + 1) b)))
-      → _≡_ {A = Layout} (record { epoch = record { 0 = epoch }; «set_count» = n; sets = cs; «range_count» = m; ranges = rs }) (valueOf (decode b))
+      → _≡_ {A = Layout} (record { epoch = record { 0 = epoch }; shape = shape; «set_count» = n; sets = cs; «range_count» = m; ranges = rs }) (valueOf (decode b))
   unfolding valueOf decode
-  parsed-is ee es ea en ec ep em er =
-      let start : 5 + getD b 4 0 ≡ at = sym (ea ∙ rw es) in
+  parsed-is ee eh es ea en ec ep em er =
+      let start : 6 + getD b 5 0 ≡ at = sym (ea ∙ rw es) in
       let count : getD (drop at b) 0 0 ≡ n = byte-behind b at ∙ sym en in
       let behind : drop 1 (drop at b) ≡ drop (at + 1) b = drop-drop 1 at b in
       let uses : getD (drop past b) 0 0 ≡ m = byte-behind b past ∙ sym em in
       let end : drop 1 (drop past b) ≡ drop (past + 1) b = drop-drop 1 past b in
-      sym (rw (start, count, behind, ← ep, uses, end, sets-length n (drop (at + 1) b), spans-length m (drop (past + 1) b), ← ec, ← er, ← ee))
+      sym (rw (start, count, behind, ← ep, uses, end, sets-length n (drop (at + 1) b), spans-length m (drop (past + 1) b), ← ec, ← er, ← ee, ← eh))

@@ -196,6 +196,7 @@ module _ (held : Lay) (drops : List ℕ) (new : List (List ℕ)) (start : ℕ) (
         (record {
           low = omega arith;
           high = omega (arith, fits .epoch-left);
+          known = g .known;
           sets-few = omega (arith, set-count, fits .sets-fit);
           spans-few = omega (arith, span-count, fits .spans-fit);
           sets-good = sets-good-here;
@@ -206,7 +207,7 @@ module _ (held : Lay) (drops : List ℕ) (new : List (List ℕ)) (start : ℕ) (
 
     pub plan-lawful : lawful held (planned held drops new start) ≡ true
     unfolding lawful planned
-    plan-lawful = rw (plan-keeps-spans (held .spans) new start (g .first-zero) starts, plan-keeps-sets drops (held .sets) new (fits .none-lost), span-count, set-count) (longer new (length (held .spans)) (length (held .sets)))
+    plan-lawful = rw (eq-eqb (held .shape) (held .shape) refl, plan-keeps-spans (held .spans) new start (g .first-zero) starts, plan-keeps-sets drops (held .sets) new (fits .none-lost), span-count, set-count) (longer new (length (held .spans)) (length (held .sets)))
 
 -- the start that is set fits
 pub start-fits : (held : Lay) (new : List (List ℕ)) (edge : ℕ) → startAnswer held new edge ≡ 0 → StartFits (held .spans) new (newStart held edge)

@@ -8,7 +8,7 @@ use native.Mathlib.Omega.{arith}
 use borrow.Author.Tests.{leb-true, ltb-true, not-false}
 use lib.Dec.{leb, ltb}
 use lib.ListN.{length, getD, drop, length-append}
-use lib.Seq.{getD-at, drop-at, drop-drop, drop-append-seam}
+use lib.Seq.{getD-at, getD-drop, drop-at, drop-drop, drop-append-seam}
 use Rattle.num.specs.Limits.{limit, lastEpoch}
 use Rattle.num.specs.Bytes.{leBytes, numberAt}
 use Rattle.num.proofs.Tests.{and-both, cond-zero}
@@ -16,7 +16,7 @@ use Rattle.num.proofs.Numbers.{le-length, le-put, number-within}
 use Rattle.layout.specs.declared.Layout.{Layout}
 use Rattle.layout.specs.Lay.{Span, Lay, good, goodSets, goodSpans, inSets, usedFrom, unitsOf}
 use Rattle.layout.specs.Value.{padded, layOf, goodValue}
-use Rattle.layout.specs.Codec.{counted, setsBytes, spanBytes, spansBytes, encode, setsAt, pastSets, spanFront, spansAt, decode, same, isLayout, readAnswer, readLayout, setsSaid, areSets, bytesOf}
+use Rattle.layout.specs.Codec.{counted, setsBytes, spanBytes, spansBytes, sizeLimit, encode, setsAt, pastSets, spanFront, spansAt, decode, same, isLayout, readAnswer, readLayout, setsSaid, areSets, bytesOf}
 use Rattle.layout.proofs.Goodness.{Good, good-says}
 use Rattle.layout.proofs.Values.{short, good-short, lay-of-value, value-of-good, value-is-good}
 use Rattle.layout.proofs.Same.{same-eq, same-self}
@@ -79,31 +79,37 @@ spans-back low (s ∷ ss) g =
 
 -- ---- layouts: results, as are those of values below
 
-decode-encode-parts : (e : ℕ) (us : List ℕ) (ss : List (List ℕ)) (rs : List Span) → e ≤ lastEpoch → goodSpans 0 rs ≡ true
-    → _≡_ {A = Lay} (decode (leBytes 4 e ++ (counted us ++ ((length ss ∷ setsBytes ss) ++ (length rs ∷ spansBytes rs))))) (record { epoch = e; sets = ss; spans = rs })
+decode-encode-parts : (e h : ℕ) (us : List ℕ) (ss : List (List ℕ)) (rs : List Span) → e ≤ lastEpoch → goodSpans 0 rs ≡ true
+    → _≡_ {A = Lay} (decode (leBytes 4 e ++ (h ∷ (counted us ++ ((length ss ∷ setsBytes ss) ++ (length rs ∷ spansBytes rs)))))) (record { epoch = e; shape = h; sets = ss; spans = rs })
 unfolding decode
-decode-encode-parts e us ss rs h g =
+decode-encode-parts e h us ss rs s g =
     let tail = length rs ∷ spansBytes rs in
-    let b = leBytes 4 e ++ (counted us ++ ((length ss ∷ setsBytes ss) ++ tail)) in
+    let behind = counted us ++ ((length ss ∷ setsBytes ss) ++ tail) in
+    let b = leBytes 4 e ++ (h ∷ behind) in
     let epoch : numberAt 4 0 b ≡ e = number-back 4 e _ (omega arith) (omega arith) in
-    let count : getD b 4 0 ≡ length us = getD-at (leBytes 4 e) (length us) _ 0 4 (le-length 4 e) in
-    let five : 5 + length us ≡ 4 + (1 + length us) = omega arith in
-    let front : drop 4 b ≡ counted us ++ ((length ss ∷ setsBytes ss) ++ tail) = drop-at (leBytes 4 e) (counted us ++ ((length ss ∷ setsBytes ss) ++ tail)) 4 (le-length 4 e) in
-    let past : drop (5 + length us) b ≡ length ss ∷ (setsBytes ss ++ tail)
-    = rw (five, ← drop-drop (1 + length us) 4 b, front) (past-set us ((length ss ∷ setsBytes ss) ++ tail)) in
-    rw (epoch, count, past, past-back ss tail, sets-back ss tail, spans-back 0 rs g)
+    let shape : getD b 4 0 ≡ h = getD-at (leBytes 4 e) h behind 0 4 (le-length 4 e) in
+    let front : drop 5 b ≡ behind = sym (drop-drop 1 4 b) ∙ ap (drop 1) (drop-at (leBytes 4 e) (h ∷ behind) 4 (le-length 4 e)) in
+    let count : getD b 5 0 ≡ length us = sym (getD-drop 5 b 0 0) ∙ rw front in
+    let six : 6 + length us ≡ 5 + (1 + length us) = omega arith in
+    let past : drop (6 + length us) b ≡ length ss ∷ (setsBytes ss ++ tail)
+    = rw (six, ← drop-drop (1 + length us) 5 b, front) (past-set us ((length ss ∷ setsBytes ss) ++ tail)) in
+    rw (epoch, shape, count, past, past-back ss tail, sets-back ss tail, spans-back 0 rs g)
 
 encode-parts : (l : Lay)
-    → encode l ≡ leBytes 4 (l .epoch) ++ (counted (unitsOf (l .sets)) ++ ((length (l .sets) ∷ setsBytes (l .sets)) ++ (length (l .spans) ∷ spansBytes (l .spans))))
+    → encode l ≡ leBytes 4 (l .epoch) ++ (l .shape ∷ (counted (unitsOf (l .sets)) ++ ((length (l .sets) ∷ setsBytes (l .sets)) ++ (length (l .spans) ∷ spansBytes (l .spans)))))
 unfolding encode
 encode-parts l =
-    append-assoc (leBytes 4 (l .epoch) ++ counted (unitsOf (l .sets))) (length (l .sets) ∷ setsBytes (l .sets)) (length (l .spans) ∷ spansBytes (l .spans))
-    ∙ append-assoc (leBytes 4 (l .epoch)) (counted (unitsOf (l .sets))) ((length (l .sets) ∷ setsBytes (l .sets)) ++ (length (l .spans) ∷ spansBytes (l .spans)))
+    let spans = length (l .spans) ∷ spansBytes (l .spans) in
+    let sets = length (l .sets) ∷ setsBytes (l .sets) in
+    let units = counted (unitsOf (l .sets)) in
+    let shape = l .shape ∷ [] in
+    let epoch = leBytes 4 (l .epoch) in
+    append-assoc (epoch ++ shape ++ units) sets spans ∙ append-assoc (epoch ++ shape) units (sets ++ spans) ∙ append-assoc epoch shape (units ++ (sets ++ spans))
 
 pub decode-encode : (l : Lay) → good l ≡ true → decode (encode l) ≡ l
 decode-encode l h =
     let g : Good l = good-says l h in
-    rw (encode-parts l) (decode-encode-parts (l .epoch) (unitsOf (l .sets)) (l .sets) (l .spans) (g .high) (g .spans-good))
+    rw (encode-parts l) (decode-encode-parts (l .epoch) (l .shape) (unitsOf (l .sets)) (l .sets) (l .spans) (g .high) (g .spans-good))
 
 -- what is written is a layout
 pub encode-is-layout : (l : Lay) → good l ≡ true → isLayout (encode l) ≡ true
@@ -163,19 +169,21 @@ spans-few [] = omega arith
 spans-few (s ∷ ss) =
     omega (arith, spans-few ss, length-append (spanBytes s) (spansBytes ss), length-append (leBytes 8 (s .start)) (s .uses ∷ []), le-length 8 (s .start))
 
-pub encode-small : (l : Lay) → good l ≡ true → length (encode l) ≤ 167
+pub encode-small : (l : Lay) → good l ≡ true → length (encode l) ≤ sizeLimit
 unfolding encode unitsOf
 encode-small l h =
     let g : Good l = good-says l h in
     let epoch = leBytes 4 (l .epoch) in
+    let shape = l .shape ∷ [] in
     let units = counted (usedFrom 1 8 (l .sets)) in
     let sets = length (l .sets) ∷ setsBytes (l .sets) in
     let spans = length (l .spans) ∷ spansBytes (l .spans) in
     omega (
       arith,
-      length-append (epoch ++ units ++ sets) spans,
-      length-append (epoch ++ units) sets,
-      length-append epoch units,
+      length-append (epoch ++ shape ++ units ++ sets) spans,
+      length-append (epoch ++ shape ++ units) sets,
+      length-append (epoch ++ shape) units,
+      length-append epoch shape,
       le-length 4 (l .epoch),
       units-few 1 8 (l .sets),
       sets-few (l .sets) (good-short (l .sets) (g .sets-good)),

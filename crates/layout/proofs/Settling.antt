@@ -100,7 +100,7 @@ module _ (held : Lay) (drops us : List ℕ) (new : List (List ℕ)) (start : ℕ
       = length-append (held .spans) (newSpans 0 (us ∷ new)) ∙ sym (length-append (held .spans) (newSpans start (us ∷ new))) in
       let r = ranges-set (held .spans) (record { start = 0; uses = suc (length new) }) start h in
       let v = valueOf (planned held drops (us ∷ new) 0) in
-      λ i. record { epoch = v .epoch; «set_count» = v .«set_count»; sets = v .sets; «range_count» = n i; ranges = r i }
+      λ i. record { epoch = v .epoch; shape = v .shape; «set_count» = v .«set_count»; sets = v .sets; «range_count» = n i; ranges = r i }
 
 -- ---- the plan with its start set
 

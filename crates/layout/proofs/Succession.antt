@@ -1,9 +1,9 @@
--- What a lawful successor keeps: the number of each old position's set, and of each old set a non-empty sublist.
+-- What a lawful successor keeps: the shape, the number of each old position's set, and of each old set a non-empty sublist.
 use Prim.Native.Nat.{ℕ, zero, suc, _+_, _-_, _%_, _<_, _≤_}
 use mathlib.Core.Bool.{Bool, true, false, _&&_, _||_, cond}
 use mathlib.Core.List.{List, [], _∷_}
 use mathlib.Core.Logic.{⊎-elim}
-use mathlib.Core.Path.{_≡_, refl, _∙_}
+use mathlib.Core.Path.{_≡_, refl, sym, _∙_}
 use native.Mathlib.Omega.{arith}
 use borrow.Author.Tests.{leb-true, ltb-true, eqb-true}
 use lib.Dec.{leb, ltb, eqb}
@@ -142,22 +142,36 @@ pub record Kept (old : List ℕ) (new : Lay) : Type 0 where
   pub was-in : (unit in? old) ≡ true
   pub stays : inSets unit (new .sets) ≡ true
 
+record Lawful (old new : Lay) : Type 0 where
+  shape : old .shape ≡ new .shape
+  spans : keepsSpans 0 (old .spans) (new .spans) ≡ true
+  sets : keepsSets (old .sets) (new .sets) ≡ true
+
 module _ (old new : Lay) (law : lawful old new ≡ true) where
-  lawful-parts : (keepsSpans 0 (old .spans) (new .spans) ≡ true) × (keepsSets (old .sets) (new .sets) ≡ true)
+  lawful-parts : Lawful old new
   unfolding lawful
   lawful-parts =
-      and-both (keepsSpans 0 (old .spans) (new .spans)) (keepsSets (old .sets) (new .sets))
-      (and-both (keepsSpans 0 (old .spans) (new .spans) && keepsSets (old .sets) (new .sets)) (ltb (length (old .spans)) (length (new .spans)) || eqb (length (old .sets)) (length (new .sets))) law .0)
+      let same = eqb (old .shape) (new .shape) in
+      let spans = keepsSpans 0 (old .spans) (new .spans) in
+      let sets = keepsSets (old .sets) (new .sets) in
+      let p = and-both (same && spans && sets) (ltb (length (old .spans)) (length (new .spans)) || eqb (length (old .sets)) (length (new .sets))) law in
+      let q = and-both (same && spans) sets (p .0) in
+      let r = and-both same spans (q .0) in
+      record { shape = eqb-true _ _ (r .0); spans = r .1; sets = q .1 }
+
+  -- the yard's shape is that of its first layout
+  pub shape-kept : new .shape ≡ old .shape
+  shape-kept = sym (lawful-parts .shape)
 
   pub number-kept : (p : ℕ) → ¬ Renewed old new p → setNumber new p ≡ setNumber old p
   unfolding setNumber
-  number-kept p same = placed-kept 0 (old .spans) (new .spans) 0 0 p (lawful-parts .0) (λ h k. same (record { more = last-rises (old .spans) (new .spans) (lawful-parts .0) h; from = k }))
+  number-kept p same = placed-kept 0 (old .spans) (new .spans) 0 0 p (lawful-parts .spans) (λ h k. same (record { more = last-rises (old .spans) (new .spans) (lawful-parts .spans) h; from = k }))
 
   module _ (g : Good old) where
     -- each set is replaced by a non-empty sublist of itself
     pub set-kept : (p : ℕ) → ¬ Renewed old new p → Shrunk (setAt old p) (setAt new p)
     unfolding setAt
-    set-kept p same = rw (number-kept p same) (keeps-at (old .sets) (new .sets) (setNumber old p) (lawful-parts .1) (number-below old g p))
+    set-kept p same = rw (number-kept p same) (keeps-at (old .sets) (new .sets) (setNumber old p) (lawful-parts .sets) (number-below old g p))
 
     pub unit-kept : (p u : ℕ) → ¬ Renewed old new p → (u in? setAt new p) ≡ true → (u in? setAt old p) ≡ true
     unit-kept p u same i = shrunk-in (set-kept p same) u i
@@ -168,12 +182,12 @@ module _ (old new : Lay) (law : lawful old new ≡ true) where
     one-stays p =
         let k = setNumber old p in
         let h = number-below old g p in
-        let s = keeps-at (old .sets) (new .sets) k (lawful-parts .1) h in
+        let s = keeps-at (old .sets) (new .sets) k (lawful-parts .sets) h in
         let i = head-in (getD (new .sets) k []) (s .some) in
         record {
           unit = headOf (getD (new .sets) k []);
           was-in = shrunk-in s (headOf (getD (new .sets) k [])) i;
-          stays = in-set (new .sets) k (headOf (getD (new .sets) k [])) (omega (arith, keeps-length (old .sets) (new .sets) (lawful-parts .1))) i;
+          stays = in-set (new .sets) k (headOf (getD (new .sets) k [])) (omega (arith, keeps-length (old .sets) (new .sets) (lawful-parts .sets))) i;
         }
 
 -- every unit of a position's set is a unit of the layout

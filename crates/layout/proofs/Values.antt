@@ -12,7 +12,7 @@ use Rattle.num.proofs.Tests.{and-both}
 use Rattle.layout.specs.declared.Chain.{Chain}
 use Rattle.layout.specs.declared.Range.{Range}
 use Rattle.layout.specs.declared.Layout.{Layout}
-use Rattle.layout.specs.Lay.{Span, Lay, rising, goodSet, goodSets, good}
+use Rattle.layout.specs.Lay.{Span, Lay, lastShape, rising, goodSet, goodSets, good}
 use Rattle.layout.specs.Value.{padded, noChain, noRange, unitsIn, spanIn, layOf, chainOf, rangeOf, valueOf, zeros, tidyChain, tidyChains, blankRanges, tidy, goodValue}
 use Rattle.layout.proofs.Bools.{and-intro, same-test}
 use Rattle.layout.proofs.Goodness.{Good, good-says, Tidy, tidy-says, says-tidy}
@@ -181,6 +181,11 @@ unfolding goodValue
 value-of-good l h =
     let p = and-both (good (layOf l)) (tidy l) h in
     (p .0, sym (value-back l (p .1)))
+
+-- a good layout's shape is known
+pub value-known : (l : Layout) → goodValue l ≡ true → l .shape ≤ lastShape
+unfolding layOf
+value-known l h = good-says (layOf l) (value-of-good l h .0) .known
 
 good-of-value : (l : Lay) → goodValue (valueOf l) ≡ true → good l ≡ true
 unfolding goodValue valueOf

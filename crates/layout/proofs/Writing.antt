@@ -14,7 +14,7 @@ use Rattle.layout.specs.declared.Layout.{Layout}
 use Rattle.layout.specs.declared.encoded.Encoded.{Encoded}
 use Rattle.layout.specs.Lay.{good}
 use Rattle.layout.specs.Value.{layOf, valueOf, blank, goodValue}
-use Rattle.layout.specs.Codec.{encode, decode, same, isLayout, readLayout, LayoutRead, bytesOf, writeRefused, LayoutWritten}
+use Rattle.layout.specs.Codec.{encode, decode, same, isLayout, readLayout, LayoutRead, bytesOf, sizeLimit, writeRefused, LayoutWritten}
 use Rattle.layout.specs.Growing.{grown, nothing}
 use Rattle.layout.proofs.Padding.{padded-front, sets-padded}
 use Rattle.layout.proofs.Values.{good-value, lay-of-value}
@@ -24,12 +24,12 @@ pub record Holds (e : Encoded) (bytes : List ℕ) : Type 0 where
   pub count-is : e .count ≡ length bytes
   pub front-is : take (e .count) (e .bytes) ≡ bytes
 
-pub holds : (e : Encoded) (bytes : List ℕ) → e ≡ grown nothing bytes → e .count ≤ 167 → Holds e bytes
+pub holds : (e : Encoded) (bytes : List ℕ) → e ≡ grown nothing bytes → e .count ≤ sizeLimit → Holds e bytes
 unfolding grown
 holds e bytes h s =
     let count : e .count ≡ length bytes = rw h (zero-add (length bytes)) in
-    let small : length bytes ≤ 167 = rw count at s in
-    let front : take (length bytes) (e .bytes) ≡ bytes = rw (h, sets-padded 167 0 bytes) (padded-front 167 0 bytes small) in
+    let small : length bytes ≤ sizeLimit = rw count at s in
+    let front : take (length bytes) (e .bytes) ≡ bytes = rw (h, sets-padded sizeLimit 0 bytes) (padded-front sizeLimit 0 bytes small) in
     record { count-is = count; front-is = rw count front }
 
 too-long : (a b : ℕ) → not (leb a b) ≡ ltb b a
@@ -40,10 +40,10 @@ too-long a b = go (leb a b) refl
     go false e = sym (lt-ltb b a (leb-false a b e))
 
 -- what is copied fits both
-pub copy-fits : (g : Bool) (n count len : ℕ) → count ≤ 167 → n ≡ cond (not g || not (leb count len)) 0 count → (n ≤ 167) × (n ≤ len)
+pub copy-fits : (g : Bool) (n count len : ℕ) → count ≤ sizeLimit → n ≡ cond (not g || not (leb count len)) 0 count → (n ≤ sizeLimit) × (n ≤ len)
 copy-fits g n count len s h = go (not g || not (leb count len)) refl h
   where
-    go : (t : Bool) → (not g || not (leb count len)) ≡ t → n ≡ cond t 0 count → (n ≤ 167) × (n ≤ len)
+    go : (t : Bool) → (not g || not (leb count len)) ≡ t → n ≡ cond t 0 count → (n ≤ sizeLimit) × (n ≤ len)
     go true e z = (omega arith, omega arith)
     go false e z =
         let fits : count ≤ len = leb-true count len (not-false (leb count len) (or-false (not g) (not (leb count len)) e .1)) in

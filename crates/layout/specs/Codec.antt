@@ -31,10 +31,15 @@ unfoldable pub spansBytes : List Span → List ℕ
 spansBytes [] = []
 spansBytes (s ∷ ss) = spanBytes s ++ spansBytes ss
 
--- epoch (4), then units, sets, ranges
+-- no layout has more bytes: epoch 4, shape 1, units 1 + 8, sets 1 + 16 * 5, ranges 1 + 8 * 9
+abbrev pub sizeLimit : ℕ
+sizeLimit = 168
+
+-- epoch (4), shape (1), then units, sets, ranges
 unfoldable pub encode : Lay → List ℕ
 encode l =
     leBytes 4 (l .epoch)
+    ++ (l .shape ∷ [])
     ++ counted (unitsOf (l .sets))
     ++ (length (l .sets) ∷ setsBytes (l .sets))
     ++ (length (l .spans) ∷ spansBytes (l .spans))
@@ -63,9 +68,9 @@ unfoldable pub spansAt : ℕ → List ℕ → List Span
 spansAt zero xs = []
 spansAt (suc n) xs = spanFront xs ∷ spansAt n (drop 9 xs)
 
--- what stands behind the epoch and the unit section
+-- what stands behind the epoch, the shape and the unit section
 abbrev pub pastUnits : List ℕ → List ℕ
-pastUnits b = drop (5 + getD b 4 0) b
+pastUnits b = drop (6 + getD b 5 0) b
 
 -- what stands behind the sets
 abbrev pub pastChains : List ℕ → List ℕ
@@ -74,6 +79,7 @@ pastChains b = pastSets (getD (pastUnits b) 0 0) (drop 1 (pastUnits b))
 unfoldable pub decode : List ℕ → Lay
 decode b = record {
   epoch = numberAt 4 0 b;
+  shape = getD b 4 0;
   sets = setsAt (getD (pastUnits b) 0 0) (drop 1 (pastUnits b));
   spans = spansAt (getD (pastChains b) 0 0) (drop 1 (pastChains b));
 }

@@ -11,9 +11,10 @@ pub record Span : Type 0 where
   pub start : ℕ
   pub uses : ℕ
 
--- sets: each the units of a set. spans: the ranges
+-- shape: the kind of all units of the yard, 0 small, 1 large. sets: each the units of a set. spans: the ranges
 pub record Lay : Type 0 where
   pub epoch : ℕ
+  pub shape : ℕ
   pub sets : List (List ℕ)
   pub spans : List Span
 
@@ -21,6 +22,10 @@ pub record Lay : Type 0 where
 
 abbrev pub unitLimit : ℕ
 unitLimit = 8
+
+-- shapes are 0 and 1; any other is unknown
+abbrev pub lastShape : ℕ
+lastShape = 1
 
 abbrev pub setLimit : ℕ
 setLimit = 4
@@ -61,10 +66,11 @@ unfoldable pub used : List Span → ℕ
 used [] = 0
 used (s ∷ ss) = s .uses + used ss
 
--- limits kept, epoch at least 1, sets good, first start 0, starts rising, the ranges use all sets
+-- limits kept, epoch at least 1, shape known, sets good, first start 0, starts rising, the ranges use all sets
 unfoldable pub good : Lay → Bool
 good l =
     leb 1 (l .epoch) && leb (l .epoch) lastEpoch
+    && leb (l .shape) lastShape
     && leb (length (l .sets)) setsLimit && leb (length (l .spans)) rangesLimit
     && goodSets (l .sets)
     && firstAtZero (l .spans) && goodSpans 0 (l .spans)

@@ -55,6 +55,7 @@ newSpans start (us ∷ sets) = record { start = start; uses = length (us ∷ set
 unfoldable pub planned : Lay → List ℕ → List (List ℕ) → ℕ → Lay
 planned held drops new start = record {
   epoch = held .epoch + 1;
+  shape = held .shape;
   sets = map (without drops) (held .sets) ++ new;
   spans = held .spans ++ newSpans start new;
 }
@@ -125,6 +126,7 @@ openStart ss edge = max edge (startAt ss (length ss - 2) + 1)
 unfoldable pub startSet : ℕ → ℕ → Layout → Layout
 startSet k start l = record {
   epoch = l .epoch;
+  shape = l .shape;
   «set_count» = l .«set_count»;
   sets = l .sets;
   «range_count» = l .«range_count»;

@@ -1,4 +1,4 @@
--- A lawful successor: the same starts and set numbers, each old set replaced by a non-empty sublist of itself;
+-- A lawful successor: the same shape, the same starts and set numbers, each old set replaced by a non-empty sublist of itself;
 -- then at most one more range, starting above the last old start.
 use Prim.Native.Nat.{ℕ}
 use mathlib.Core.Bool.{Bool, true, false, _&&_, _||_, cond}
@@ -29,5 +29,6 @@ keepsSpans last (o ∷ os) (n ∷ ns) = eqb (o .start) (n .start) && eqb (o .use
 -- with no range more there is no set more
 unfoldable pub lawful : Lay → Lay → Bool
 lawful old new =
-    keepsSpans 0 (old .spans) (new .spans) && keepsSets (old .sets) (new .sets)
+    eqb (old .shape) (new .shape)
+    && keepsSpans 0 (old .spans) (new .spans) && keepsSets (old .sets) (new .sets)
     && (ltb (length (old .spans)) (length (new .spans)) || eqb (length (old .sets)) (length (new .sets)))

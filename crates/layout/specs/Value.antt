@@ -32,6 +32,7 @@ spanIn r = record { start = r .start .0; uses = r .sets }
 unfoldable pub layOf : Layout → Lay
 layOf l = record {
   epoch = l .epoch .0;
+  shape = l .shape;
   sets = map unitsIn (take (l .«set_count») (l .sets));
   spans = map spanIn (take (l .«range_count») (l .ranges));
 }
@@ -47,6 +48,7 @@ rangeOf s = record { start = record { 0 = s .start }; sets = s .uses }
 unfoldable pub valueOf : Lay → Layout
 valueOf l = record {
   epoch = record { 0 = l .epoch };
+  shape = l .shape;
   «set_count» = length (l .sets);
   sets = padded setsLimit noChain (map chainOf (l .sets));
   «range_count» = length (l .spans);
@@ -57,6 +59,7 @@ valueOf l = record {
 abbrev pub blank : Layout
 blank = record {
   epoch = record { 0 = 0 };
+  shape = 0;
   «set_count» = 0;
   sets = replicate setsLimit noChain;
   «range_count» = 0;

@@ -7,7 +7,7 @@ ghost use lib.ListN.{length};
 ghost use Rattle.num.specs.Bytes.{leBytes};
 ghost use Rattle.layout.specs.Lay.{unitsOf};
 ghost use Rattle.layout.specs.Value.{layOf, unitsIn, spanIn};
-ghost use Rattle.layout.specs.Codec.{counted, setsBytes, spanBytes, spansBytes, bytesOf};
+ghost use Rattle.layout.specs.Codec.{counted, setsBytes, spanBytes, spansBytes, sizeLimit, bytesOf};
 ghost use Rattle.layout.specs.Growing.{grown, nothing};
 use crate::Chain;
 use crate::Layout;
@@ -17,7 +17,7 @@ use crate::place::in_sets;
 use num::answer::pick;
 
 pub struct Encoded {
-    pub bytes: [u8; 167],
+    pub bytes: [u8; Layout::SIZE],
     pub count: usize,
 }
 
@@ -141,12 +141,13 @@ fn push_units(e: Encoded, l: Layout) -> Encoded
 
 // The bytes of a layout.
 pub(crate) fn bytes_of(l: Layout) -> Encoded
-    ensures { λ r. ⌜ (r ≡ grown nothing (bytesOf l)) × (r .count ≤ 167) ⌝ }
+    ensures { λ r. ⌜ (r ≡ grown nothing (bytesOf l)) × (r .count ≤ sizeLimit) ⌝ }
 {
     let none = Encoded {
-        bytes: [0u8; 167],
+        bytes: [0u8; Layout::SIZE],
         count: 0,
     };
     let epoch = push_number(none, l.epoch.0 as u64, 4);
-    push_ranges(push_sets(push_units(epoch, l), l), l)
+    let shape = push(epoch, l.shape);
+    push_ranges(push_sets(push_units(shape, l), l), l)
 }

@@ -98,6 +98,7 @@ pub fn is_good(l: Layout) -> bool
     let ranges = size(l.range_count);
     let first = l.ranges[0];
     (1 <= l.epoch.0)
+        & (l.shape <= Layout::LARGE)
         & (sets <= 16)
         & (1 <= ranges)
         & (ranges <= 8)

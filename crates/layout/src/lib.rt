@@ -26,9 +26,10 @@ pub struct Range {
     pub sets: u8,
 }
 
-// Entries past a count are blank, so that equal layouts are equal values.
+// The shape is the kind of all units of the yard. Entries past a count are blank, so that equal layouts are equal values.
 pub struct Layout {
     pub epoch: Epoch,
+    pub shape: u8,
     pub set_count: u8,
     pub sets: [Chain; 16],
     pub range_count: u8,
@@ -52,8 +53,12 @@ impl Layout {
 
     pub const RANGES: usize = 8;
 
-    // The bytes of the largest layout: 4, 1 + 8, 1 + 16 * 5, 1 + 8 * 9.
-    pub const SIZE: usize = 167;
+    // The bytes of the largest layout: 4, 1, 1 + 8, 1 + 16 * 5, 1 + 8 * 9.
+    pub const SIZE: usize = 168;
+
+    pub const SMALL: u8 = 0;
+
+    pub const LARGE: u8 = 1;
 
     // No layout: what stands where none is given.
     pub fn blank() -> Layout
@@ -61,6 +66,7 @@ impl Layout {
     {
         Layout {
             epoch: Epoch(0),
+            shape: Layout::SMALL,
             set_count: 0,
             sets: [Chain {
                 count: 0,

@@ -193,6 +193,7 @@ fn new_layout(held: Layout, drops: &[u8], wish: Wish) -> Layout
     let more = pick(0 < wish.count, 1, 0);
     Layout {
         epoch: Epoch(held.epoch.0 + 1),
+        shape: held.shape,
         set_count: held.set_count + wish.count,
         sets,
         range_count: held.range_count + more,

@@ -5,7 +5,7 @@ ghost use mathlib.Core.List.{map};
 ghost use Prim.Native.Nat.{_+_, _*_, _≤_};
 ghost use lib.ListN.{getD, take, drop, set};
 ghost use Rattle.layout.specs.Value.{padded, noChain, noRange, chainOf, rangeOf, valueOf, blank};
-ghost use Rattle.layout.specs.Codec.{setFront, spanFront, setsAt, pastSets, spansAt, decode, same, LayoutRead};
+ghost use Rattle.layout.specs.Codec.{setFront, spanFront, setsAt, pastSets, spansAt, decode, same, sizeLimit, LayoutRead};
 use crate::Chain;
 use crate::Layout;
 use crate::Range;
@@ -135,7 +135,8 @@ fn parsed(b: &[u8]) -> Layout
     ensures { λ r. ⌜ r ≡ valueOf (decode (now (b .entry))) ⌝ }
 {
     let epoch = number_at(b, 0, 4) as u32;
-    let at = 5 + size(byte_at(b, 4));
+    let shape = byte_at(b, 4);
+    let at = 6 + size(byte_at(b, 5));
     let count = byte_at(b, at);
     let s = sets_from(b, at + 1, size(count));
     let past = s.past;
@@ -145,6 +146,7 @@ fn parsed(b: &[u8]) -> Layout
     let ranges = t.ranges;
     Layout {
         epoch: Epoch(epoch),
+        shape,
         set_count: count,
         sets,
         range_count: uses,
@@ -154,7 +156,7 @@ fn parsed(b: &[u8]) -> Layout
 
 // Whether the bytes are the layout's own: as many, and the same.
 fn same_bytes(e: Encoded, b: &[u8]) -> bool
-    requires { ⌜ e .count ≤ 167 ⌝ }
+    requires { ⌜ e .count ≤ sizeLimit ⌝ }
     ensures { λ r. ⌜ r ≡ same (take (e .count) (e .bytes)) (now (b .entry)) ⌝ }
 {
     let n = e.count;

@@ -93,5 +93,5 @@ pub fn lawful(old: Layout, new: Layout) -> bool
 {
     let longer = range_total(old) < range_total(new);
     let same = set_total(old) == set_total(new);
-    keeps_spans(old, new) & keeps_sets(old, new) & (longer | same)
+    (old.shape == new.shape) & keeps_spans(old, new) & keeps_sets(old, new) & (longer | same)
 }

@@ -4,7 +4,7 @@ ghost use mathlib.Core.Bool.{cond};
 ghost use Prim.Native.Nat.{_≤_};
 ghost use lib.ListN.{length, take};
 ghost use lib.Seq.{sets};
-ghost use Rattle.layout.specs.Codec.{LayoutWritten};
+ghost use Rattle.layout.specs.Codec.{LayoutWritten, sizeLimit};
 use crate::Layout;
 use crate::encoded::Encoded;
 use crate::encoded::bytes_of;
@@ -26,7 +26,7 @@ fn pick_size(applies: bool, n: usize, later: usize) -> usize
 
 // The first `n` of the bytes go to the front.
 fn copy_front(out: &mut [u8], e: Encoded, n: usize)
-    requires { ⌜ (n ≤ 167) × (n ≤ length (now out)) ⌝ }
+    requires { ⌜ (n ≤ sizeLimit) × (n ≤ length (now out)) ⌝ }
     ensures { λ _. ⌜ now (out .exit) ≡ sets (now (out .entry)) 0 (take n (e .bytes)) ⌝ }
 {
     let mut i: usize = 0;

@@ -8,7 +8,7 @@ use Rattle.line.specs.Line.{whoText, pageText, endText, lineOf}
 
 -- a read of position 41 that was shown three bytes, in epoch 305
 abbrev pub threeBytes : Outcome
-threeBytes = record { number = 0; position = record { 0 = 41 }; epoch = record { 0 = 305 }; page = record { kind = 1; len = 3; bytes = 10 ∷ 176 ∷ 255 ∷ replicate 29 0 } }
+threeBytes = record { number = 0; position = record { 0 = 41 }; epoch = record { 0 = 305 }; page = record { kind = 1; len = 3; bytes = 10 ∷ 176 ∷ 255 ∷ replicate 77 0 } }
 
 -- "12 18": the twelfth step was answered 18, and nothing ended
 pub short-line : (o : Outcome) → lineOf 12 18 0 o ≡ 49 ∷ 50 ∷ 32 ∷ 49 ∷ 56 ∷ 10 ∷ []

@@ -8,7 +8,6 @@ use native.Mathlib.Numerals.{add-one}
 use native.Mathlib.Omega.{arith}
 use borrow.Author.Tests.{eq-eqb}
 use lib.ListN.{length, getD}
-use Rattle.unit.specs.Shape.{small, memorySize}
 use Rattle.marked.specs.declared.ask.Row.{Row}
 use Rattle.marked.specs.declared.ask.Told.{Told}
 use Rattle.marked.specs.Asks.{leftBy, IsTold}
@@ -42,7 +41,7 @@ pub verdict-small : {r : ℕ} (b : Bool) → r ≡ cond b 0 1 → r ≤ 1
 verdict-small true e = omega arith
 verdict-small false e = omega arith
 
-pub running-more : {m mem later : List ℕ} {k wrong r : ℕ} {row : Row} {got : Told} → length m ≡ memorySize small → k < count → Running m k mem wrong
+pub running-more : {m mem later : List ℕ} {k wrong r : ℕ} {row : Row} {got : Told} → length m ≡ 6168 → k < count → Running m k mem wrong
     → row ≡ getD rows k blank → IsTold mem (row .asked) got later → r ≡ cond (sameTold got (row .told)) 0 1 → Running m (k + 1) later (wrong + r)
 running-more {m} {mem} {later} {k} {wrong} {r} {row} {got} e h s q t v =
     let h′ : k < length rows = rw size h in

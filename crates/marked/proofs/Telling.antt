@@ -18,7 +18,7 @@ pub told-eq : {a a′ b b′ c c′ : ℕ} → a ≡ a′ → b ≡ b′ → c �
 told-eq p q r = rw (p, q, r)
 
 module _ {m after : List ℕ} {answer : ℕ} {t : Told} where
-  pub fresh-told : {n : ℕ} → IsFresh m n answer after → t ≡ told answer 0 0 → IsTold m (Fresh n) t after
+  pub fresh-told : {n code : ℕ} → IsFresh m n code answer after → t ≡ told answer 0 0 → IsTold m (Fresh n code) t after
   unfolding toldOf leftBy
   fresh-told x e = record { told-is = e ∙ told-eq (x .answer-is) refl refl; memory-is = x .memory-is }
 

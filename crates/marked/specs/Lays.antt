@@ -15,10 +15,11 @@ use Rattle.marked.specs.declared.ask.Told.{Told}
 abbrev pub told : ℕ → ℕ → ℕ → Told
 told answer first second = record { answer = answer; first = first; second = second }
 
--- 01000000 03010203 03 020102 020203 020103 02 0000000000000000 02 0A00000000000000 01
+-- 01000000 00 03010203 03 020102 020203 020103 02 0000000000000000 02 0A00000000000000 01: of a small yard
 abbrev pub tenth : List ℕ
 tenth =
     1 ∷ 0 ∷ 0 ∷ 0
+    ∷ 0
     ∷ 3 ∷ 1 ∷ 2 ∷ 3
     ∷ 3 ∷ 2 ∷ 1 ∷ 2 ∷ 2 ∷ 2 ∷ 3 ∷ 2 ∷ 1 ∷ 3
     ∷ 2 ∷ 0 ∷ 0 ∷ 0 ∷ 0 ∷ 0 ∷ 0 ∷ 0 ∷ 0 ∷ 2 ∷ 10 ∷ 0 ∷ 0 ∷ 0 ∷ 0 ∷ 0 ∷ 0 ∷ 0 ∷ 1

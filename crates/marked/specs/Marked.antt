@@ -5,7 +5,6 @@ use mathlib.Core.List.{List, [], _∷_}
 use mathlib.Core.Path.{_≡_}
 use lib.Dec.{eqb}
 use lib.ListN.{length, getD}
-use Rattle.unit.specs.Shape.{small, memorySize}
 use Rattle.marked.specs.declared.ask.Ask.the-variants.{Floor}
 use Rattle.marked.specs.declared.ask.Row.{Row}
 use Rattle.marked.specs.declared.ask.Told.{Told}
@@ -29,4 +28,4 @@ after (suc k) (r ∷ rs) m = after k rs (leftBy m (r .asked))
 
 -- whatever the bytes were, the rules answer every row of the table as it expects
 abbrev pub Marked : Type 0
-Marked = (m : List ℕ) → length m ≡ memorySize small → (k : ℕ) → k < length rows → toldOf (after k rows m) (getD rows k blank .asked) ≡ getD rows k blank .told
+Marked = (m : List ℕ) → length m ≡ 6168 → (k : ℕ) → k < length rows → toldOf (after k rows m) (getD rows k blank .asked) ≡ getD rows k blank .told

@@ -10,7 +10,7 @@ use Rattle.marked.specs.Table.{epoch, position}
 
 -- what is asked, epoch, position, kind, bytes
 abbrev pub askNumbers : Ask → List ℕ
-askNumbers (Fresh n) = 1 ∷ 0 ∷ n ∷ 0 ∷ 0 ∷ []
+askNumbers (Fresh n shape) = 1 ∷ 0 ∷ n ∷ shape ∷ 0 ∷ []
 askNumbers (Write e p kind size) = 2 ∷ e .0 ∷ p .0 ∷ kind ∷ size ∷ []
 askNumbers (Read e p) = 3 ∷ e .0 ∷ p .0 ∷ 0 ∷ 0 ∷ []
 askNumbers (Trim e p) = 4 ∷ e .0 ∷ p .0 ∷ 0 ∷ 0 ∷ []
@@ -29,10 +29,10 @@ unfoldable pub numbersOf : List Row → List (List ℕ)
 numbersOf [] = []
 numbersOf (r ∷ rs) = rowNumbers r ∷ numbersOf rs
 
--- what is asked, read back: of an epoch and a unit's number 32 bits are taken, of a kind and a unit to drop 8
+-- what is asked, read back: of an epoch and a unit's number 32 bits are taken, of a kind, a shape and a unit to drop 8
 unfoldable pub askOf : ℕ → ℕ → ℕ → ℕ → ℕ → Ask
 askOf asked e p kind size =
-    cond (eqb asked 1) (Fresh (p % 2 ^ 32))
+    cond (eqb asked 1) (Fresh (p % 2 ^ 32) (kind % 256))
     (cond (eqb asked 2) (Write (epoch (e % 2 ^ 32)) (position p) (kind % 256) size)
     (cond (eqb asked 3) (Read (epoch (e % 2 ^ 32)) (position p))
     (cond (eqb asked 4) (Trim (epoch (e % 2 ^ 32)) (position p))

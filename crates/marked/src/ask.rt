@@ -3,8 +3,8 @@ use num::Epoch;
 use num::Position;
 
 pub enum Ask {
-    // A fresh memory of the unit of that number.
-    Fresh(u32),
+    // A fresh memory of the unit of that number, in the shape that the byte names.
+    Fresh(u32, u8),
     // A page of that kind with so many bytes.
     Write(Epoch, Position, u8, usize),
     Read(Epoch, Position),
@@ -38,7 +38,7 @@ pub struct Row {
 
 impl Row {
     // Rows of the table, and the numbers that each has there.
-    pub const COUNT: usize = 45;
+    pub const COUNT: usize = 82;
 
     pub const NUMBERS: usize = 9;
 }

@@ -14,8 +14,9 @@ use num::Position;
 use num::bytes::number_at;
 use num::bytes::wide;
 
-const TENTH: [u8; 37] = [
+const TENTH: [u8; 38] = [
     1,
+    0,
     0,
     0,
     0,
@@ -54,7 +55,7 @@ const TENTH: [u8; 37] = [
     1,
 ];
 
-fn bytes() -> [u8; 37]
+fn bytes() -> [u8; 38]
     ensures { λ r. ⌜ r ≡ tenth ⌝ }
 {
     TENTH

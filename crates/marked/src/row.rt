@@ -30,7 +30,7 @@ fn ask_of(asked: u64, e: u64, p: u64, kind: u64, size: u64) -> Ask
     let epoch = Epoch(half(e));
     let position = Position(p);
     match asked {
-        1 => Ask::Fresh(half(p)),
+        1 => Ask::Fresh(half(p), byte(kind)),
         2 => Ask::Write(epoch, position, byte(kind), size as usize),
         3 => Ask::Read(epoch, position),
         4 => Ask::Trim(epoch, position),

@@ -46,10 +46,19 @@ fn say_units(n: u64) {
     say_unit(n / 16_777_216);
 }
 
+fn say_shape(shape: u8) {
+    match shape {
+        0 => text(b"fresh small"),
+        1 => text(b"fresh large"),
+        _ => text(b"fresh other"),
+    }
+}
+
 fn say_asked(asked: Ask) {
     match asked {
-        Ask::Fresh(n) => {
-            text(b"fresh unit ");
+        Ask::Fresh(n, shape) => {
+            say_shape(shape);
+            text(b" unit ");
             number(n as u64);
         }
         Ask::Write(e, p, kind, size) => {

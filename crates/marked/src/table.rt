@@ -6,9 +6,10 @@ use crate::ask::Row;
 use num::Position;
 
 // Example; what is asked (1 fresh, 2 write, 3 read, 4 trim, 5 prune, 6 seal, 7 fill, 8 floor, 9 place, 10 drop), epoch, position, kind, bytes; answer, two numbers more.
-// A fresh unit's number and how many positions a fill writes stand where others have the position.
+// A fresh unit's number and how many positions a fill writes stand where others have the position, and the fresh unit's shape where others have the kind.
 // The units that are dropped stand where others have epoch and position, and the set that is shown where others have the bytes.
 const TABLE: [[u64; Row::NUMBERS]; Row::COUNT] = [
+    // The small shape.
     [1, 1, 0, 1, 0, 0, 0, 0, 0],
     [1, 3, 1, 0, 0, 0, 7, 0, 0],
     [2, 1, 0, 1, 0, 0, 0, 0, 0],
@@ -46,6 +47,45 @@ const TABLE: [[u64; Row::NUMBERS]; Row::COUNT] = [
     [9, 5, 1, 2, 0, 0, 0, 0, 0],
     [9, 8, 0, 0, 0, 0, 0, 3, 0],
     [9, 6, 0, 0, 0, 0, 0, 3, 0],
+    // The large shape.
+    [1, 1, 0, 1, 1, 0, 0, 0, 0],
+    [1, 3, 1, 0, 0, 0, 7, 0, 0],
+    [2, 1, 0, 1, 1, 0, 0, 0, 0],
+    [2, 2, 1, 0, 1, 0, 0, 0, 0],
+    [2, 3, 1, 0, 0, 0, 0, 1, 0],
+    [2, 2, 1, 0, 2, 0, 6, 0, 0],
+    [3, 1, 0, 1, 1, 0, 0, 0, 0],
+    [3, 2, 0, 0, 1, 0, 4, 0, 0],
+    [4, 1, 0, 1, 1, 0, 0, 0, 0],
+    [4, 2, 1, Position::LIMIT - 1, 1, 0, 0, 0, 0],
+    [4, 2, 1, Position::LIMIT, 1, 0, 2, 0, 0],
+    [4, 2, 1, Position::LIMIT, 1, 81, 2, 0, 0],
+    [5, 1, 0, 1, 1, 0, 0, 0, 0],
+    [5, 2, 1, 0, 1, 80, 0, 0, 0],
+    [5, 2, 1, 0, 1, 81, 3, 0, 0],
+    [6, 1, 0, 1, 1, 0, 0, 0, 0],
+    [6, 6, 1, 0, 0, 0, 0, 0, 0],
+    [6, 2, 1, 0, 1, 0, 4, 0, 0],
+    [6, 2, 2, 0, 1, 0, 0, 0, 0],
+    [6, 6, 1, 0, 0, 0, 0, 1, 0],
+    [6, 6, 0, 0, 0, 0, 4, 0, 0],
+    [7, 1, 0, 1, 1, 0, 0, 0, 0],
+    [7, 4, 1, 5, 0, 0, 0, 0, 0],
+    [7, 2, 1, 5, 1, 0, 5, 0, 0],
+    [7, 6, 0, 0, 0, 0, 0, 6, 0],
+    [8, 1, 0, 1, 1, 0, 0, 0, 0],
+    [8, 7, 1, 64, 0, 0, 0, 0, 0],
+    [8, 2, 1, 64, 1, 0, 8, 0, 0],
+    [8, 2, 1, 0, 1, 0, 6, 0, 0],
+    [8, 5, 1, 1, 0, 0, 0, 0, 0],
+    [8, 2, 1, 64, 1, 0, 0, 0, 0],
+    [8, 3, 1, 0, 0, 0, 5, 0, 0],
+    [9, 1, 0, 1, 1, 0, 0, 0, 0],
+    [9, 5, 1, 3, 0, 0, 0, 0, 0],
+    [9, 5, 1, 2, 0, 0, 0, 0, 0],
+    [9, 8, 0, 0, 0, 0, 0, 3, 0],
+    [9, 6, 0, 0, 0, 0, 0, 3, 0],
+    // Layouts.
     [10, 9, 0, 0, 0, 0, 0, 0, 0],
     [10, 9, 0, 9, 0, 0, 0, 1, 0],
     [10, 9, 0, 10, 0, 0, 0, 2, 0],

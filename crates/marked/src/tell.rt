@@ -40,8 +40,8 @@ fn plain(answer: u8) -> Told
 fn tell_write(mem: &mut [u8], e: Epoch, p: Position, kind: u8, size: usize) -> Told
     ensures { λ r. ⌜ IsTold (now (mem .entry)) (Ask.Write e p kind size) r (now (mem .exit)) ⌝ }
 {
-    let bytes = [7u8; 33];
-    let n = least(size, 33);
+    let bytes = [7u8; 81];
+    let n = least(size, 81);
     plain(write(mem, e, p, kind, &bytes[..n]))
 }
 
@@ -96,7 +96,7 @@ pub(crate) fn tell(mem: &mut [u8], asked: Ask) -> Told
     ensures { λ r. ⌜ IsTold (now (mem .entry)) asked r (now (mem .exit)) ⌝ }
 {
     match asked {
-        Ask::Fresh(n) => plain(fresh(mem, n)),
+        Ask::Fresh(n, shape) => plain(fresh(mem, n, shape)),
         Ask::Write(e, p, kind, size) => tell_write(mem, e, p, kind, size),
         Ask::Read(e, p) => tell_read(mem, e, p),
         Ask::Trim(e, p) => plain(trim(mem, e, p)),

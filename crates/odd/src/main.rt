@@ -74,7 +74,7 @@ fn steps(mut going: Going, file: &[u8], count: u32, units: &mut [u8], words: &mu
 // The play, or 22 where it is none or the oddity has no such name.
 fn run(odd: u8, file: &[u8]) {
     let judged = judge(file);
-    if (judged.answer != 0) | (odd == 0) | (7 < odd) {
+    if (judged.answer != 0) | (odd == 0) | (8 < odd) {
         text(b"22\n");
         return;
     }

@@ -60,7 +60,11 @@ fn odd_layout(mut held: Layout, odd: u8) -> Layout {
     held
 }
 
-// 3: a spare byte in the header of unit 3. 4: its memory bears the number 4.
+fn other_shape(shape: u8) -> u8 {
+    if shape == 0 { 1 } else { 0 }
+}
+
+// 3: a spare byte in the header of unit 3. 4: its memory bears the number 4. 8: its memory is of the other shape.
 fn spoil(units: &mut [u8], odd: u8) {
     if units.len() < Yard::SIZE {
         return;
@@ -69,6 +73,7 @@ fn spoil(units: &mut [u8], odd: u8) {
         2 => seal_all(units),
         3 => units[12_356] = 1,
         4 => units[12_336] = 4,
+        8 => units[12_337] = other_shape(units[12_337]),
         _ => {}
     }
 }

@@ -9,14 +9,18 @@ use lib.ListN.{length, take, drop, getD, replicate, length-append, length-drop, 
 use borrow.Author.Tests.{eqb-true, eq-eqb, le-ltb}
 use Rattle.num.proofs.Tests.{and-both}
 use Rattle.layout.specs.Value.{goodValue}
-use Rattle.unit.specs.Shape.{small, memorySize}
+use Rattle.layout.proofs.Values.{value-known}
+use Rattle.unit.specs.declared.shape.Shape.{Shape}
+use Rattle.unit.specs.Shape.{shapeFor}
 use Rattle.unit.specs.State.{State}
-use Rattle.unit.specs.Memory.{good, decode, encode, numberOf, valid}
+use Rattle.unit.specs.Memory.{good, decode, encode, numberOf, codeOf, valid}
+use Rattle.unit.proofs.Goodness.{is-good}
+use Rattle.unit.proofs.Shapes.{Sized, sized, for-known, names-shape, code-own}
 use Rattle.unit.proofs.Decoding.{decode-encode, encode-good}
 use Rattle.client.specs.declared.Client.{Client}
 use Rattle.rule.specs.declared.Letter.{Letter}
-use Rattle.rule.specs.World.{World, blankLetter}
-use Rattle.rule.specs.Lent.{Lent, unitSize, goodUnits, fetched, goodClients, testNumber, lentNumber, unitsIn, seen, unitsBytes, laid, left}
+use Rattle.rule.specs.World.{World, shapeUnder, blankLetter}
+use Rattle.rule.specs.Lent.{Lent, unitSize, goodUnit, goodUnits, fetched, goodClients, testNumber, lentNumber, unitsIn, seen, unitsBytes, laid, left}
 
 -- ---- lists
 
@@ -51,40 +55,63 @@ all-from P other (suc n) k (x ∷ xs) e f =
 
 -- ---- units
 
-pub record Fit (k : ℕ) (u : State) : Type 0 where
-  pub is-valid : valid small u ≡ true
+pub record Fit (sh : Shape) (k : ℕ) (u : State) : Type 0 where
+  pub is-valid : valid sh u ≡ true
   pub number-is : u .number ≡ k
 
-encode-long : (u : State) → valid small u ≡ true → length (encode small u) ≡ unitSize
-unfolding good
-encode-long u v = eqb-true (length (encode small u)) (memorySize small) (and-both (eqb (length (encode small u)) (memorySize small)) _ (encode-good small u v (omega arith)) .0)
+-- of whatever shape the yard is; that there is such a shape is asked only of the test
+module _ (shape : ℕ) where
+  abbrev sh : Shape
+  sh = shapeFor shape
 
-encode-number : (u : State) → valid small u ≡ true → numberOf (encode small u) ≡ u .number
-unfolding decode
-encode-number u v = ap (λ (s : State). s .number) (decode-encode small u v (omega arith))
+  fits : Sized sh
+  fits = sized shape
 
-units-seen : {k : ℕ} (us : List State) → AllFrom Fit k us → unitsIn (length us) (unitsBytes us) ≡ us
-unfolding unitsIn unitsBytes
-units-seen [] from-none = refl
-units-seen (u ∷ us) (from-more fit rest) =
-    rw (
-      take-front unitSize (encode small u) (unitsBytes us) (encode-long u (fit .is-valid)),
-      drop-front unitSize (encode small u) (unitsBytes us) (encode-long u (fit .is-valid)),
-      decode-encode small u (fit .is-valid) (omega arith),
-      units-seen us rest,
-    )
+  module _ (u : State) (v : valid sh u ≡ true) where
+    is-encoded : good sh (encode sh u) ≡ true
+    is-encoded = encode-good sh u v (fits .room)
 
-units-good : {k : ℕ} (us : List State) → AllFrom Fit k us → goodUnits k (length us) (unitsBytes us) ≡ true
-unfolding goodUnits unitsBytes
-units-good [] from-none = refl
-units-good {k} (u ∷ us) (from-more fit rest) =
-    rw (
-      take-front unitSize (encode small u) (unitsBytes us) (encode-long u (fit .is-valid)),
-      drop-front unitSize (encode small u) (unitsBytes us) (encode-long u (fit .is-valid)),
-      encode-good small u (fit .is-valid) (omega arith),
-      eq-eqb (numberOf (encode small u)) k (encode-number u (fit .is-valid) ∙ fit .number-is),
-      units-good us rest,
-    )
+    encode-long : length (encode sh u) ≡ unitSize
+    encode-long = is-good sh (encode sh u) is-encoded .size ∙ fits .whole
+
+    encode-back : decode sh (encode sh u) ≡ u
+    encode-back = decode-encode sh u v (fits .room)
+
+    encode-number : numberOf (encode sh u) ≡ u .number
+    unfolding decode
+    encode-number = ap (λ (s : State). s .number) encode-back
+
+    encode-tested : (k : ℕ) → u .number ≡ k → shape ≤ 1 → goodUnit shape k (encode sh u) ≡ true
+    unfolding goodUnit
+    encode-tested k n known =
+        rw (
+          names-shape sh (encode sh u) (for-known shape) is-encoded,
+          is-encoded,
+          eq-eqb (numberOf (encode sh u)) k (encode-number ∙ n),
+          eq-eqb (codeOf (encode sh u)) shape (is-good sh (encode sh u) is-encoded .header .named ∙ code-own shape known),
+        )
+
+  units-seen : {k : ℕ} (us : List State) → AllFrom (Fit sh) k us → unitsIn sh (length us) (unitsBytes sh us) ≡ us
+  unfolding unitsIn unitsBytes
+  units-seen [] from-none = refl
+  units-seen (u ∷ us) (from-more fit rest) =
+      rw (
+        take-front unitSize (encode sh u) (unitsBytes sh us) (encode-long u (fit .is-valid)),
+        drop-front unitSize (encode sh u) (unitsBytes sh us) (encode-long u (fit .is-valid)),
+        encode-back u (fit .is-valid),
+        units-seen us rest,
+      )
+
+  units-good : {k : ℕ} (us : List State) → shape ≤ 1 → AllFrom (Fit sh) k us → goodUnits shape k (length us) (unitsBytes sh us) ≡ true
+  unfolding goodUnits unitsBytes
+  units-good [] known from-none = refl
+  units-good {k} (u ∷ us) known (from-more fit rest) =
+      rw (
+        take-front unitSize (encode sh u) (unitsBytes sh us) (encode-long u (fit .is-valid)),
+        drop-front unitSize (encode sh u) (unitsBytes sh us) (encode-long u (fit .is-valid)),
+        encode-tested u (fit .is-valid) k (fit .number-is) known,
+        units-good us known rest,
+      )
 
 -- ---- clients
 
@@ -100,7 +127,7 @@ clients-good (c ∷ cs) (from-more ok rest) = rw (ok, clients-good cs rest)
 
 -- a yard that may be lent
 pub record Lendable (w : World) : Type 0 where
-  pub units-fit : AllFrom Fit 1 (w .units)
+  pub units-fit : AllFrom (Fit (shapeUnder (w .held))) 1 (w .units)
   pub eight : length (w .units) ≡ 8
   pub held-good : goodValue (w .held) ≡ true
   pub clients-fit : AllFrom Told 1 (w .clients)
@@ -112,6 +139,12 @@ pub record Room (b : Lent) : Type 0 where
   pub count : b .yard .count ≤ 32
 
 module _ (b : Lent) (room : Room b) (w : World) (ok : Lendable w) where
+  abbrev yard-shape : Shape
+  yard-shape = shapeUnder (w .held)
+
+  known : w .held .shape ≤ 1
+  known = value-known (w .held) (ok .held-good)
+
   letters-seen : take (length (w .letters)) (laid (w .letters) (b .yard .count) (b .table)) ≡ w .letters
   unfolding laid
   letters-seen =
@@ -142,14 +175,14 @@ module _ (b : Lent) (room : Room b) (w : World) (ok : Lendable w) where
         units = us;
         sequencer = w .sequencer;
         letters = take (length (w .letters)) (laid (w .letters) (b .yard .count) (b .table));
-      }) (subst (λ n. unitsIn n (unitsBytes (w .units)) ≡ w .units) (ok .eight) (units-seen (w .units) (ok .units-fit)))
+      }) (subst (λ n. unitsIn yard-shape n (unitsBytes yard-shape (w .units)) ≡ w .units) (ok .eight) (units-seen (w .held .shape) (w .units) (ok .units-fit)))
       ∙ ap (λ (ls : List Letter). record { held = w .held; clients = w .clients; stopped = w .stopped; units = w .units; sequencer = w .sequencer; letters = ls }) letters-seen
 
   pub left-number : lentNumber (left b w) ≡ 0
   unfolding lentNumber testNumber left
   left-number =
       rw (
-        subst (λ n. goodUnits 1 n (unitsBytes (w .units)) ≡ true) (ok .eight) (units-good (w .units) (ok .units-fit)),
+        subst (λ n. goodUnits (w .held .shape) 1 n (unitsBytes yard-shape (w .units)) ≡ true) (ok .eight) (units-good (w .held .shape) (w .units) known (ok .units-fit)),
         ok .held-good,
         clients-good (w .clients) (ok .clients-fit),
         table-long,

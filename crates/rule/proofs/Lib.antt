@@ -5,3 +5,4 @@ pub mod Refusing
 pub mod Bringing
 pub mod Leaving
 pub mod Restarting
+pub mod Shaping

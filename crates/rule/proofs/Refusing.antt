@@ -51,7 +51,7 @@ deliver-unchanged w i keep keepAnswer = go (letterAt w i .body)
 pub refused-unchanged : (w : World) (s : Step) (j : Job) → Unchanged w (step w s j)
 unfolding step begins drops stops restarts givesUp forgets turned
 refused-unchanged w (Begin c) j =
-    either (eqb (beginNumber w c j) 0) (turned w (w .letters) c (beginTurn (clientAt w c) j)) (refused w (beginNumber w c j)) (λ no. absurd (no refl)) (λ no. (refl, refl))
+    either (eqb (beginNumber w c j) 0) (turned w (w .letters) c (beginTurn (clientAt w c) j (w .held .shape))) (refused w (beginNumber w c j)) (λ no. absurd (no refl)) (λ no. (refl, refl))
 refused-unchanged w (Deliver i keep keepAnswer) j = deliver-unchanged w i keep keepAnswer
 refused-unchanged w (Drop i) j =
     either (ltb i (length (w .letters))) (fine (withLetters w (without i (w .letters)))) (refused w 17) (λ no. absurd (no refl)) (λ no. (refl, refl))

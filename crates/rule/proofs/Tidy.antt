@@ -10,7 +10,7 @@ use borrow.Author.Tests.{eqb-true, leb-false, ltb-false}
 use Rattle.num.specs.Checks.{Check, lowest}
 use Rattle.num.proofs.Tests.{cond-zero, or-false}
 use Rattle.layout.specs.declared.Layout.{Layout}
-use Rattle.unit.specs.Shape.{small}
+use Rattle.unit.specs.declared.shape.Shape.{Shape}
 use Rattle.unit.specs.State.{State, lookup}
 use Rattle.unit.specs.Unit.{freshUnit, trimmed, writeSays, written, writeUnit, trimSays, retired, trimmedAt, trimUnit, pruneSays, pruned, prunedTo, pruneUnit, sealSays, sealedAt, sealUnit}
 use Rattle.client.specs.declared.Ask.{Ask}
@@ -28,7 +28,7 @@ use Rattle.rule.specs.declared.Body.the-variants.{Blank, Asks, Answers}
 use Rattle.rule.specs.declared.Letter.{Letter}
 use Rattle.rule.specs.declared.Step.{Step}
 use Rattle.rule.specs.declared.Step.the-variants.{Begin, Deliver, Drop, Stop, Restart, GiveUp, Forget}
-use Rattle.rule.specs.World.{World, isClient, isUnit, running, clientAt, unitAt, letterAt, letterLimit}
+use Rattle.rule.specs.World.{World, shapeUnder, isClient, isUnit, running, clientAt, unitAt, letterAt, letterLimit}
 use Rattle.rule.specs.Serve.{withUnit, serve, asking, offeringTo, unserved, kindOf, bytesOf}
 use Rattle.rule.specs.Steps.{Done, refused, fine, without, keeping, tooMany, withLetters, withClient, withStopped, sentBy, turned, beginNumber, begins, answers, served, taken, unbrought, brought, delivered, delivers, drops, stops, restartNumber, restarts, givesUp, forgets, response, step}
 use Rattle.rule.proofs.Lists.{posted-few, set-all, unit-range, unit-runs}
@@ -39,18 +39,19 @@ either-number : {n : ℕ} (b : Bool) (x y : State) → x .number ≡ n → y .nu
 either-number true x y a b = a
 either-number false x y a b = b
 
-module _ (u : State) where
-  write-number : (e p k : ℕ) (xs : List ℕ) → writeUnit small u e p k xs .number ≡ u .number
+module _ (sh : Shape) (u : State) where
+  write-number : (e p k : ℕ) (xs : List ℕ) → writeUnit sh u e p k xs .number ≡ u .number
   unfolding writeUnit written
-  write-number e p k xs = either-number (eqb (writeSays small u e p k xs) 0) (written u p k xs) u refl refl
+  write-number e p k xs = either-number (eqb (writeSays sh u e p k xs) 0) (written u p k xs) u refl refl
 
-  trim-number : (e p : ℕ) → trimUnit small u e p .number ≡ u .number
+  trim-number : (e p : ℕ) → trimUnit sh u e p .number ≡ u .number
   unfolding trimUnit trimmedAt written retired
   trim-number e p =
       let at = either-number (trimmed p (u .floor) (lookup p (u .slots) .kind)) u (cond (eqb (lookup p (u .slots) .kind) 0) (written u p 3 []) (retired u p)) refl
       (either-number (eqb (lookup p (u .slots) .kind) 0) (written u p 3 []) (retired u p) refl refl) in
-      either-number (eqb (trimSays small u e p) 0) (trimmedAt u p) u at refl
+      either-number (eqb (trimSays sh u e p) 0) (trimmedAt u p) u at refl
 
+module _ (u : State) where
   prune-number : (e p : ℕ) → pruneUnit u e p .number ≡ u .number
   unfolding pruneUnit prunedTo pruned
   prune-number e p = either-number (eqb (pruneSays u e p) 0) (prunedTo u p) u (either-number (ltb (u .floor) p) (pruned u p) u refl refl) refl
@@ -93,11 +94,11 @@ serve-tidy w Fetch g k ls to few tidy = tidy-as refl few tidy
 serve-tidy w (Token e) g k ls to few tidy = tidy-as refl few tidy
 serve-tidy w (Write u e p) g k ls to few tidy =
     let range = unit-range u (unit-runs (isUnit u) (not (getD (w .stopped) (u - 1) true)) to) in
-    with-number (writeUnit small (unitAt w u) (e .0) (p .0) (kindOf g) (bytesOf g)) ls tidy few (range .0) (range .1) (write-number (unitAt w u) (e .0) (p .0) (kindOf g) (bytesOf g))
+    with-number (writeUnit (shapeUnder (w .held)) (unitAt w u) (e .0) (p .0) (kindOf g) (bytesOf g)) ls tidy few (range .0) (range .1) (write-number (shapeUnder (w .held)) (unitAt w u) (e .0) (p .0) (kindOf g) (bytesOf g))
 serve-tidy w (Read u e p) g k ls to few tidy = tidy-as refl few tidy
 serve-tidy w (Trim u e p) g k ls to few tidy =
     let range = unit-range u (unit-runs (isUnit u) (not (getD (w .stopped) (u - 1) true)) to) in
-    with-number (trimUnit small (unitAt w u) (e .0) (p .0)) ls tidy few (range .0) (range .1) (trim-number (unitAt w u) (e .0) (p .0))
+    with-number (trimUnit (shapeUnder (w .held)) (unitAt w u) (e .0) (p .0)) ls tidy few (range .0) (range .1) (trim-number (shapeUnder (w .held)) (unitAt w u) (e .0) (p .0))
 serve-tidy w (Prune u e p) g k ls to few tidy =
     let range = unit-range u (unit-runs (isUnit u) (not (getD (w .stopped) (u - 1) true)) to) in
     with-number (pruneUnit (unitAt w u) (e .0) (p .0)) ls tidy few (range .0) (range .1) (prune-number (unitAt w u) (e .0) (p .0))
@@ -115,14 +116,16 @@ without-few i [] = omega arith
 without-few zero (l ∷ ls) = omega arith
 without-few (suc i) (l ∷ ls) = omega (arith, without-few i ls)
 
-begin-room : (w : World) (c : ℕ) (j : Job) → beginNumber w c j ≡ 0 → length (w .letters) < 32
+-- an operation that begins has room for its letter, and neither 2 nor 3 applies
+pub begin-fine : (w : World) (c : ℕ) (j : Job) → beginNumber w c j ≡ 0 → (length (w .letters) < 32) × (lowest (jobChecks j (w .held .shape)) ≡ 0)
 unfolding beginNumber
-begin-room w c j e =
+begin-fine w c j e =
     let bag : Check = record { applies = leb letterLimit (length (w .letters)); number = 16 } in
-    let a = cond-zero (not (isClient c)) 17 (cond (busy (clientAt w c .stage)) 18 (cond (leb lastNumber (clientAt w c .used .0)) 19 (lowest (bag ∷ jobChecks j)))) (omega arith) e in
-    let b = cond-zero (busy (clientAt w c .stage)) 18 (cond (leb lastNumber (clientAt w c .used .0)) 19 (lowest (bag ∷ jobChecks j))) (omega arith) (a .1) in
-    let d = cond-zero (leb lastNumber (clientAt w c .used .0)) 19 (lowest (bag ∷ jobChecks j)) (omega arith) (b .1) in
-    leb-false letterLimit (length (w .letters)) (cond-zero (leb letterLimit (length (w .letters))) 16 (lowest (jobChecks j)) (omega arith) (d .1) .0)
+    let a = cond-zero (not (isClient c)) 17 (cond (busy (clientAt w c .stage)) 18 (cond (leb lastNumber (clientAt w c .used .0)) 19 (lowest (bag ∷ jobChecks j (w .held .shape))))) (omega arith) e in
+    let b = cond-zero (busy (clientAt w c .stage)) 18 (cond (leb lastNumber (clientAt w c .used .0)) 19 (lowest (bag ∷ jobChecks j (w .held .shape)))) (omega arith) (a .1) in
+    let d = cond-zero (leb lastNumber (clientAt w c .used .0)) 19 (lowest (bag ∷ jobChecks j (w .held .shape))) (omega arith) (b .1) in
+    let f = cond-zero (leb letterLimit (length (w .letters))) 16 (lowest (jobChecks j (w .held .shape))) (omega arith) (d .1) in
+    (leb-false letterLimit (length (w .letters)) (f .0), f .1)
 
 module _ (w : World) (tidy : Tidy w) where
   -- a client's turn, where there is room for what it sends
@@ -133,10 +136,10 @@ module _ (w : World) (tidy : Tidy w) where
   begin-tidy : (c : ℕ) (j : Job) → Tidy (begins w c j .world)
   unfolding begins
   begin-tidy c j =
-      let t = beginTurn (clientAt w c) j in
+      let t = beginTurn (clientAt w c) j (w .held .shape) in
       either-tidy (eqb (beginNumber w c j) 0) (turned w (w .letters) c t) (refused w (beginNumber w c j))
       (λ e. turned-tidy (w .letters) c t
-      (omega (arith, begin-room w c j (eqb-true (beginNumber w c j) 0 e), length-append (w .letters) (sentBy c t), posted-few c (t .client .life) (t .act) (t .query))))
+      (omega (arith, begin-fine w c j (eqb-true (beginNumber w c j) 0 e) .0, length-append (w .letters) (sentBy c t), posted-few c (t .client .life) (t .act) (t .query))))
       (λ e. tidy)
 
   give-up-tidy : (c : ℕ) → Tidy (givesUp w c .world)

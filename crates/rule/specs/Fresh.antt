@@ -17,7 +17,7 @@ use Rattle.client.specs.Client as client
 use Rattle.rule.specs.declared.Letter.{Letter}
 use Rattle.rule.specs.declared.Yard.{Yard}
 use Rattle.rule.specs.declared.Made.{Made}
-use Rattle.rule.specs.World.{World, unitLimit, clientLimit, letterLimit, blankLetter}
+use Rattle.rule.specs.World.{World, shapeUnder, unitLimit, clientLimit, letterLimit, blankLetter}
 use Rattle.rule.specs.Lent.{Lent, unitSize, unitsBytes}
 
 -- n fresh units, from unit u on
@@ -53,13 +53,13 @@ freshNumber l table memories = freshNumberOf l (length table) (length memories)
 abbrev pub freshYard : Layout → Yard
 freshYard l = record { held = l; clients = replicate clientLimit client.fresh; stopped = replicate unitLimit false; count = 0 }
 
--- whatever was lent is overwritten, and all 32 places are blank
+-- whatever was lent is overwritten: the memories are of the layout's shape, and all 32 places are blank
 unfoldable pub freshLent : Layout → Lent
 freshLent l = record {
   yard = freshYard l;
   sequencer = sequencer.fresh;
   table = replicate letterLimit blankLetter;
-  memories = unitsBytes (freshUnits 1 unitLimit);
+  memories = unitsBytes (shapeUnder l) (freshUnits 1 unitLimit);
 }
 
 -- a refusal leaves what was lent as it was, and makes a yard that holds no layout

@@ -7,9 +7,10 @@ use lib.Dec.{eqb, ltb}
 use lib.ListN.{length, take, drop, replicate}
 use Rattle.num.specs.Checks.{lowest, _if_}
 use Rattle.layout.specs.Value.{goodValue}
-use Rattle.unit.specs.Shape.{small, memorySize}
+use Rattle.unit.specs.declared.shape.Shape.{Shape}
+use Rattle.unit.specs.Shape.{shapeOf}
 use Rattle.unit.specs.State.{State}
-use Rattle.unit.specs.Memory.{good, decode, encode, numberOf}
+use Rattle.unit.specs.Memory.{good, decode, encode, numberOf, codeOf}
 use Rattle.sequencer.specs.declared.Sequencer.{Sequencer}
 use Rattle.client.specs.declared.Client.{Client}
 use Rattle.client.specs.declared.state.Job.{Job}
@@ -20,7 +21,7 @@ use Rattle.rule.specs.declared.Letter.{Letter}
 use Rattle.rule.specs.declared.Yard.{Yard}
 use Rattle.rule.specs.declared.Step.{Step}
 use Rattle.rule.specs.declared.Stepped.{Stepped}
-use Rattle.rule.specs.World.{World, unitLimit, letterLimit, blankLetter}
+use Rattle.rule.specs.World.{World, shapeUnder, unitLimit, letterLimit, blankLetter}
 use Rattle.rule.specs.Steps.{Done, step}
 
 pub record Lent : Type 0 where
@@ -34,14 +35,18 @@ lentOf y s table m = record { yard = y; sequencer = s; table = table; memories =
 
 -- ---- "A step first tests what it is lent"
 
--- 6,168: the bytes of one unit
+-- the bytes of one unit, of either shape
 abbrev pub unitSize : ℕ
-unitSize = memorySize small
+unitSize = 6168
 
--- n memories, from unit u on: each good and of its number, and nothing behind them
-unfoldable pub goodUnits : ℕ → ℕ → List ℕ → Bool
-goodUnits u zero m = eqb (length m) 0
-goodUnits u (suc n) m = good small (take unitSize m) && eqb (numberOf (take unitSize m)) u && goodUnits (suc u) n (drop unitSize m)
+-- the memory of unit u in a yard of a shape: good, of its number and of that shape
+unfoldable pub goodUnit : ℕ → ℕ → List ℕ → Bool
+goodUnit shape u m = good (shapeOf m) m && eqb (numberOf m) u && eqb (codeOf m) shape
+
+-- n memories, from unit u on, and nothing behind them
+unfoldable pub goodUnits : ℕ → ℕ → ℕ → List ℕ → Bool
+goodUnits shape u zero m = eqb (length m) 0
+goodUnits shape u (suc n) m = goodUnit shape u (take unitSize m) && goodUnits shape (suc u) n (drop unitSize m)
 
 -- the client has fetched a layout
 abbrev pub fetched : Stage → Bool
@@ -62,11 +67,11 @@ unfoldable pub goodClients : List Client → Bool
 goodClients [] = true
 goodClients (c ∷ cs) = (not (fetched (c .stage)) || goodValue (c .layout)) && goodClients cs
 
--- 1: a unit memory not good or not of its number. 10: a held or fetched layout not good. 16: a table not of 32 places or a count above it
+-- 1: a unit memory not good, not of its number or not of the held layout's shape. 10: a held or fetched layout not good. 16: a table not of 32 places or a count above it
 unfoldable pub testNumber : Yard → ℕ → List ℕ → ℕ
 testNumber y places m =
     lowest (
-    1 if not (goodUnits 1 unitLimit m)
+    1 if not (goodUnits (y .held .shape) 1 unitLimit m)
     ∷ 10 if not (goodValue (y .held) && goodClients (y .clients))
     ∷ 16 if (not (eqb places letterLimit) || ltb letterLimit (y .count))
     ∷ []
@@ -77,25 +82,25 @@ lentNumber b = testNumber (b .yard) (length (b .table)) (b .memories)
 
 -- ---- the yard that is lent
 
-unfoldable pub unitsIn : ℕ → List ℕ → List State
-unitsIn zero m = []
-unitsIn (suc n) m = decode small (take unitSize m) ∷ unitsIn n (drop unitSize m)
+unfoldable pub unitsIn : Shape → ℕ → List ℕ → List State
+unitsIn sh zero m = []
+unitsIn sh (suc n) m = decode sh (take unitSize m) ∷ unitsIn sh n (drop unitSize m)
 
 unfoldable pub seen : Lent → World
 seen b = record {
   held = b .yard .held;
   clients = b .yard .clients;
   stopped = b .yard .stopped;
-  units = unitsIn unitLimit (b .memories);
+  units = unitsIn (shapeUnder (b .yard .held)) unitLimit (b .memories);
   sequencer = b .sequencer;
   letters = take (b .yard .count) (b .table);
 }
 
 -- ---- and what is left there
 
-unfoldable pub unitsBytes : List State → List ℕ
-unitsBytes [] = []
-unitsBytes (u ∷ us) = encode small u ++ unitsBytes us
+unfoldable pub unitsBytes : Shape → List State → List ℕ
+unitsBytes sh [] = []
+unitsBytes sh (u ∷ us) = encode sh u ++ unitsBytes sh us
 
 -- the letters in the first places, a blank one in each place that they left, and behind both what stood there
 unfoldable pub laid : List Letter → ℕ → List Letter → List Letter
@@ -106,7 +111,7 @@ left b w = record {
   yard = record { held = w .held; clients = w .clients; stopped = w .stopped; count = length (w .letters) };
   sequencer = w .sequencer;
   table = laid (w .letters) (b .yard .count) (b .table);
-  memories = unitsBytes (w .units);
+  memories = unitsBytes (shapeUnder (w .held)) (w .units);
 }
 
 -- ---- a step: what it answers, and what is lent afterwards

@@ -9,7 +9,6 @@ use Rattle.layout.specs.declared.holder.Offered.{Offered}
 use Rattle.layout.specs.declared.holder.Fetched.{Fetched}
 use Rattle.layout.specs.Value.{blank, padded}
 use Rattle.layout.specs.Holder.{offeredTo, fetchedFrom}
-use Rattle.unit.specs.Shape.{small}
 use Rattle.unit.specs.State.{Slot, State}
 use Rattle.unit.specs.Unit.{writeSays, writeUnit, readSays, readShows, trimSays, trimUnit, pruneSays, pruneUnit, sealSays, sealTells, sealUnit}
 use Rattle.sequencer.specs.declared.Sequencer.{Sequencer}
@@ -25,7 +24,7 @@ use Rattle.client.specs.declared.Reply.{Reply}
 use Rattle.client.specs.declared.Reply.the-variants.{Held, Given, Fine, Shown, Edge, Refused}
 use Rattle.client.specs.declared.Response.{Response}
 use Rattle.client.specs.Message.{pageLimit, noPage}
-use Rattle.rule.specs.World.{World, running, unitAt}
+use Rattle.rule.specs.World.{World, shapeUnder, running, unitAt}
 
 -- an answer, and the yard once it is given
 pub record Served : Type 0 where
@@ -44,7 +43,7 @@ bare r = record { reply = r; page = noPage; layout = blank }
 
 -- ---- a unit
 
--- the page that a letter carries; where it is longer than a page can be, one of a kind that no unit takes
+-- the page that a letter carries; where it is longer than a letter has room for, one of a kind that no unit takes
 unfoldable pub kindOf : Page → ℕ
 kindOf g = cond (leb (g .len) pageLimit) (g .kind) 0
 
@@ -124,10 +123,13 @@ serve w Fetch g l = record { response = fetching (fetchedFrom (w .held)); world 
 serve w (Token e) g l = asking w (asked.Token e)
 serve w (Write u e p) g l =
     atUnit w u
-    (bare (saying (writeSays small (unitAt w u) (e .0) (p .0) (kindOf g) (bytesOf g))))
-    (writeUnit small (unitAt w u) (e .0) (p .0) (kindOf g) (bytesOf g))
+    (bare (saying (writeSays (shapeUnder (w .held)) (unitAt w u) (e .0) (p .0) (kindOf g) (bytesOf g))))
+    (writeUnit (shapeUnder (w .held)) (unitAt w u) (e .0) (p .0) (kindOf g) (bytesOf g))
 serve w (Read u e p) g l = record { response = shown (unitAt w u) (e .0) (p .0); world = w }
-serve w (Trim u e p) g l = atUnit w u (bare (saying (trimSays small (unitAt w u) (e .0) (p .0)))) (trimUnit small (unitAt w u) (e .0) (p .0))
+serve w (Trim u e p) g l =
+    atUnit w u
+    (bare (saying (trimSays (shapeUnder (w .held)) (unitAt w u) (e .0) (p .0))))
+    (trimUnit (shapeUnder (w .held)) (unitAt w u) (e .0) (p .0))
 serve w (Prune u e p) g l = atUnit w u (bare (saying (pruneSays (unitAt w u) (e .0) (p .0)))) (pruneUnit (unitAt w u) (e .0) (p .0))
 serve w (Seal u e) g l = atUnit w u (bare (edged (unitAt w u) (e .0))) (sealUnit (unitAt w u) (e .0))
 serve w Offer g l = offeringTo w (offeredTo (w .held) l)

@@ -110,17 +110,18 @@ turned w ls c t = record {
 
 -- ---- begin an operation
 
--- the yard's own checks 17, 18, 19, 16, then 2 and 3
+-- the yard's own checks 17, 18, 19, 16, then 2 and 3; 3 is that of the held layout's shape
 unfoldable pub beginNumber : World → ℕ → Job → ℕ
 beginNumber w c j =
     lowest (
     17 if not (isClient c)
     ∷ readyChecks (clientAt w c)
-    ++ (16 if leb letterLimit (length (w .letters)) ∷ jobChecks j)
+    ++ (16 if leb letterLimit (length (w .letters)) ∷ jobChecks j (w .held .shape))
     )
 
 unfoldable pub begins : World → ℕ → Job → Done
-begins w c j = cond (eqb (beginNumber w c j) 0) (turned w (w .letters) c (beginTurn (clientAt w c) j)) (refused w (beginNumber w c j))
+begins w c j =
+    cond (eqb (beginNumber w c j) 0) (turned w (w .letters) c (beginTurn (clientAt w c) j (w .held .shape))) (refused w (beginNumber w c j))
 
 -- ---- deliver a letter
 

@@ -6,6 +6,8 @@ use lib.Dec.{leb}
 use lib.ListN.{getD}
 use Rattle.layout.specs.declared.Layout.{Layout}
 use Rattle.layout.specs.Value.{blank}
+use Rattle.unit.specs.declared.shape.Shape.{Shape}
+use Rattle.unit.specs.Shape.{shapeFor}
 use Rattle.unit.specs.State.{State}
 use Rattle.unit.specs.Unit.{freshUnit}
 use Rattle.sequencer.specs.declared.Sequencer.{Sequencer}
@@ -23,6 +25,10 @@ pub record World : Type 0 where
   pub units : List State
   pub sequencer : Sequencer
   pub letters : List Letter
+
+-- the shape of the units under a layout: the yard's is that under its held layout
+abbrev pub shapeUnder : Layout → Shape
+shapeUnder l = shapeFor (l .shape)
 
 -- ---- units 1 to 8, clients 1 to 4, letters at most 32
 

@@ -124,7 +124,7 @@ module _ (l : Layout) (cs : List Cue) (starts : startsYard l ≡ true) (holds : 
   good : goodValue l ≡ true
   good = and-both (goodValue l) (eqb (l .epoch .0) 1) starts .0
 
-  few : length (bytesOf l) ≤ 167
+  few : length (bytesOf l) ≤ 168
   unfolding bytesOf
   few = encode-small (layOf l) (value-of-good l good .0)
 

@@ -21,34 +21,34 @@ use Rattle.layout.proofs.Rounds.{encode-small}
 use Rattle.script.specs.Play.{startBytes, startsYard}
 
 -- no good layout is longer than the buffer that it is written to first
-pub good-few : (l : Layout) → goodValue l ≡ true → length (bytesOf l) ≤ 167
+pub good-few : (l : Layout) → goodValue l ≡ true → length (bytesOf l) ≤ 168
 unfolding bytesOf
 good-few l g = encode-small (layOf l) (value-of-good l g .0)
 
-good-written : (l : Layout) → goodValue l ≡ true → writeRefused l (replicate 167 0) ≡ false
+good-written : (l : Layout) → goodValue l ≡ true → writeRefused l (replicate 168 0) ≡ false
 unfolding writeRefused
-good-written l g = rw g (le-ltb 167 (length (bytesOf l)) (good-few l g))
+good-written l g = rw g (le-ltb 168 (length (bytesOf l)) (good-few l g))
 
-written-good : (l : Layout) → writeRefused l (replicate 167 0) ≡ false → goodValue l ≡ true
+written-good : (l : Layout) → writeRefused l (replicate 168 0) ≡ false → goodValue l ≡ true
 unfolding writeRefused
-written-good l e = not-false (goodValue l) (or-false (not (goodValue l)) (ltb 167 (length (bytesOf l))) e .0)
+written-good l e = not-false (goodValue l) (or-false (not (goodValue l)) (ltb 168 (length (bytesOf l))) e .0)
 
-module _ (l : Layout) (answer n : ℕ) (part : List ℕ) (w : LayoutWritten l (replicate 167 0) answer n part) where
+module _ (l : Layout) (answer n : ℕ) (part : List ℕ) (w : LayoutWritten l (replicate 168 0) answer n part) where
   -- n: how many bytes were written
-  pub start-few : n ≤ 167
+  pub start-few : n ≤ 168
   unfolding writeRefused
   start-few = rw (w .count-is) (go (goodValue l) refl)
     where
-      go : (t : Bool) → goodValue l ≡ t → cond (writeRefused l (replicate 167 0)) 0 (length (bytesOf l)) ≤ 167
+      go : (t : Bool) → goodValue l ≡ t → cond (writeRefused l (replicate 168 0)) 0 (length (bytesOf l)) ≤ 168
       go true g = rw (good-written l g) (good-few l g)
       go false g = rw g (omega arith)
 
-  pub part-long : length part ≡ 167
-  part-long = ap length (w .buffer-is) ∙ go (writeRefused l (replicate 167 0))
+  pub part-long : length part ≡ 168
+  part-long = ap length (w .buffer-is) ∙ go (writeRefused l (replicate 168 0))
     where
-      go : (t : Bool) → length (cond t (replicate 167 0) (sets (replicate 167 0) 0 (bytesOf l))) ≡ 167
+      go : (t : Bool) → length (cond t (replicate 168 0) (sets (replicate 168 0) 0 (bytesOf l))) ≡ 168
       go true = refl
-      go false = length-sets (replicate 167 0) 0 (bytesOf l)
+      go false = length-sets (replicate 168 0) 0 (bytesOf l)
 
   pub start-refused : (not (eqb answer 0) || not (eqb (l .epoch .0) 1)) ≡ true → startsYard l ≡ false
   start-refused h = go (goodValue l) refl
@@ -60,11 +60,11 @@ module _ (l : Layout) (answer n : ℕ) (part : List ℕ) (w : LayoutWritten l (r
           not-true (eqb (l .epoch .0) 1) (rw (eq-eqb answer 0 fine) at h)
 
   module _ (h : (not (eqb answer 0) || not (eqb (l .epoch .0) 1)) ≡ false) where
-    taken : writeRefused l (replicate 167 0) ≡ false
+    taken : writeRefused l (replicate 168 0) ≡ false
     taken =
         let p = or-false (not (eqb answer 0)) (not (eqb (l .epoch .0) 1)) h in
-        let fine : _≡_ {A = ℕ} (cond (writeRefused l (replicate 167 0)) 10 0) 0 = sym (w .answer-is) ∙ eqb-true answer 0 (not-false (eqb answer 0) (p .0)) in
-        cond-zero (writeRefused l (replicate 167 0)) 10 0 (omega arith) fine .0
+        let fine : _≡_ {A = ℕ} (cond (writeRefused l (replicate 168 0)) 10 0) 0 = sym (w .answer-is) ∙ eqb-true answer 0 (not-false (eqb answer 0) (p .0)) in
+        cond-zero (writeRefused l (replicate 168 0)) 10 0 (omega arith) fine .0
 
     pub start-taken : startsYard l ≡ true
     start-taken =
@@ -76,8 +76,8 @@ module _ (l : Layout) (answer n : ℕ) (part : List ℕ) (w : LayoutWritten l (r
 
     pub start-part : take n part ≡ bytesOf l
     start-part =
-        let stored : part ≡ padded 167 0 (bytesOf l) = w .buffer-is ∙ rw taken (sets-padded 167 0 (bytesOf l)) in
-        rw (start-count, stored) (padded-front 167 0 (bytesOf l) (good-few l (written-good l taken)))
+        let stored : part ≡ padded 168 0 (bytesOf l) = w .buffer-is ∙ rw taken (sets-padded 168 0 (bytesOf l)) in
+        rw (start-count, stored) (padded-front 168 0 (bytesOf l) (good-few l (written-good l taken)))
 
 -- how many bytes stand before the steps
 pub start-size : (l : Layout) (n count : ℕ) → n ≡ length (bytesOf l) → length (startBytes l count) ≡ 6 + n

@@ -12,6 +12,7 @@ ghost use Rattle.script.specs.Cue.{changeOf, noJob};
 ghost use Rattle.script.specs.Cue.Cue.{append, reorganise, deliver};
 ghost use Rattle.script.specs.Steps.{pastDrops, smallSets, nothing, whole, gotAt};
 use client::Change;
+use client::Page;
 use client::Work;
 use client::state::Job;
 use layout::Chain;
@@ -69,7 +70,7 @@ fn append_at(b: &[u8]) -> Got
     ensures { λ r. ⌜ r ≡ whole (now (b .entry)) (append (getD (now (b .entry)) 1 0) (setFront (drop 2 (now (b .entry))))) ⌝ }
 {
     let len = byte_at(b, 2);
-    let mut bytes = [0u8; 32];
+    let mut bytes = [0u8; Page::ROOM];
     copy_counted(&mut bytes, b);
     sized(
         b,

@@ -102,11 +102,11 @@ fn put_seek(out: &mut [u8], at: usize, tag: u8, client: u8, position: u64) -> us
     10
 }
 
-fn put_append(out: &mut [u8], at: usize, client: u8, len: u8, bytes: [u8; 32]) -> usize
+fn put_append(out: &mut [u8], at: usize, client: u8, len: u8, bytes: [u8; Page::ROOM]) -> usize
     ensures { λ r. ⌜ IsPut (leb len pageLimit) at (1 ∷ client ∷ counted (take len bytes)) (now (out .entry)) r (now (out .exit)) ⌝ }
 {
     let n = size(len);
-    if Page::BYTES < len {
+    if Page::ROOM < n {
         return 0;
     }
     if !has_room(out.len(), at, 3 + n) {
@@ -235,7 +235,7 @@ pub fn put_step(out: &mut [u8], at: usize, step: Step, job: Job) -> usize
 pub fn put_start(out: &mut [u8], layout: Layout, count: u32) -> usize
     ensures { λ r. ⌜ StartPut layout count (now (out .entry)) r (now (out .exit)) ⌝ }
 {
-    let mut part = [0u8; 167];
+    let mut part = [0u8; Layout::SIZE];
     let w = write_layout(layout, &mut part);
     let n = w.count;
     if (w.answer != Answer::FINE) | (layout.epoch.0 != 1) {

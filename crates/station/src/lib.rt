@@ -11,10 +11,10 @@ use unit::trim::trim;
 use unit::write::write;
 
 #[no_mangle]
-pub extern "C" fn unit_fresh(mem: &mut [u8], number: u32) -> u8
-    ensures { λ r. ⌜ IsFresh (now (mem .entry)) number r (now (mem .exit)) ⌝ }
+pub extern "C" fn unit_fresh(mem: &mut [u8], number: u32, shape: u8) -> u8
+    ensures { λ r. ⌜ IsFresh (now (mem .entry)) number shape r (now (mem .exit)) ⌝ }
 {
-    fresh(mem, number)
+    fresh(mem, number, shape)
 }
 
 #[no_mangle]

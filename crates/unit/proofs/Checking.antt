@@ -3,7 +3,7 @@ use Prim.Native.Nat.{ℕ, zero, suc, _+_, _*_, _-_, _/_, _%_, _^_, _<_, _≤_}
 use mathlib.Core.Bool.{Bool, true, false, _&&_, _||_}
 use mathlib.Core.List.{List}
 use mathlib.Core.Path.{_≡_, refl, sym, ap, _∙_}
-use native.Mathlib.Nat.{zero-add}
+use native.Mathlib.Nat.{zero-add, le-trans}
 use native.Mathlib.Omega.{arith}
 use borrow.Author.Tests.{leb-true, leb-false, le-leb, ltb-true, lt-ltb, eqb-true, eqb-false, ne-eqb}
 use lib.Bits.{bitOr, bitAnd}
@@ -15,7 +15,7 @@ use Rattle.num.specs.Limits.{limit}
 use Rattle.num.proofs.Tests.{false-true, and-both, and-false}
 use Rattle.num.proofs.Numbers.{Bytes}
 use Rattle.unit.specs.Zeros.{zeros, ruler}
-use Rattle.unit.specs.Shape.{small}
+use Rattle.unit.specs.Shape.{slotSize}
 use Rattle.unit.specs.Memory.{goodFields, goodSlot, goodSlots}
 use Rattle.unit.proofs.Words.{or-none, rest-words}
 use Rattle.unit.proofs.Goodness.{FieldsGood, fields-good, slot-words}
@@ -36,57 +36,57 @@ turned-fits t h = sum (t / 256) (t % 256) (omega arith) (omega arith)
     sum : (a b : ℕ) → a < 72057594037927936 → b < 256 → a + b * 72057594037927936 < 2 ^ 64
     sum a b h l = omega arith
 
-turned-plain : (tag t : ℕ) → tag ≡ t + 1 → tag % 256 ≡ 1 → tag / 256 ≤ 32 → t / 256 + t % 256 * 72057594037927936 ≤ 32
-turned-plain tag t e k l =
+turned-plain : (cap tag t : ℕ) → tag ≡ t + 1 → tag % 256 ≡ 1 → tag / 256 ≤ cap → t / 256 + t % 256 * 72057594037927936 ≤ cap
+turned-plain cap tag t e k l =
     let z : t % 256 ≡ 0 = omega arith in
-    let n : t / 256 ≤ 32 = omega arith in
+    let n : t / 256 ≤ cap = omega arith in
     rw z (omega arith)
 
-turned-parts : (a b : ℕ) → a + b * 72057594037927936 ≤ 32 → (a ≤ 32) × (b ≡ 0)
-turned-parts a b h = (omega arith, omega arith)
+turned-parts : (cap a b : ℕ) → cap ≤ 80 → a + b * 72057594037927936 ≤ cap → (a ≤ cap) × (b ≡ 0)
+turned-parts cap a b l h = (omega arith, omega arith)
 
-few-next : (tag t : ℕ) → (t + 1) % 2 ^ 64 ≡ tag → t ≤ 8192 → tag ≡ t + 1
+few-next : (tag t : ℕ) → (t + 1) % 2 ^ 64 ≡ tag → t ≤ 20480 → tag ≡ t + 1
 few-next tag t e h = omega arith
 
-plain-next : (tag t : ℕ) → tag ≡ t + 1 → t % 256 ≡ 0 → t / 256 ≤ 32 → (tag % 256 ≡ 1) × (tag / 256 ≤ 32)
-plain-next tag t e z h = (omega arith, omega arith)
+plain-next : (cap tag t : ℕ) → tag ≡ t + 1 → t % 256 ≡ 0 → t / 256 ≤ cap → (tag % 256 ≡ 1) × (tag / 256 ≤ cap)
+plain-next cap tag t e z h = (omega arith, omega arith)
 
-few-plain : (t : ℕ) → t % 256 ≡ 0 → t / 256 ≤ 32 → t ≤ 8192
+few-plain : (t : ℕ) → t % 256 ≡ 0 → t / 256 ≤ 80 → t ≤ 20480
 few-plain t z h = omega arith
 
-turned-back : (tag t : ℕ) → (t + 1) % 2 ^ 64 ≡ tag → t / 256 + t % 256 * 72057594037927936 ≤ 32 → (tag % 256 ≡ 1) × (tag / 256 ≤ 32)
-turned-back tag t e l =
-    let (h, z) = turned-parts (t / 256) (t % 256) l in
-    plain-next tag t (few-next tag t e (few-plain t z h)) z h
+turned-back : (cap tag t : ℕ) → cap ≤ 80 → (t + 1) % 2 ^ 64 ≡ tag → t / 256 + t % 256 * 72057594037927936 ≤ cap → (tag % 256 ≡ 1) × (tag / 256 ≤ cap)
+turned-back cap tag t c e l =
+    let (h, z) = turned-parts cap (t / 256) (t % 256) c l in
+    plain-next cap tag t (few-next tag t e (few-plain t z (le-trans h c))) z h
 
 -- t is one less than the word, and its low byte is moved to the top
-pub tag-good : (tag t : ℕ) → tag < 2 ^ 64 → t < 2 ^ 64 → (t + 1) % 2 ^ 64 ≡ tag
-    → (leb (t / 256 + t % 256 * 72057594037927936) 32 || eqb (tag / 2) 1) ≡ goodFields 32 0 0 (tag % 256) (tag / 256)
-tag-good tag t hg ht e = go (leb turned 32) refl (eqb (tag / 2) 1) refl
+pub tag-good : (cap tag t : ℕ) → cap ≤ 80 → tag < 2 ^ 64 → t < 2 ^ 64 → (t + 1) % 2 ^ 64 ≡ tag
+    → (leb (t / 256 + t % 256 * 72057594037927936) cap || eqb (tag / 2) 1) ≡ goodFields cap 0 0 (tag % 256) (tag / 256)
+tag-good cap tag t hc hg ht e = go (leb turned cap) refl (eqb (tag / 2) 1) refl
   where
     turned : ℕ
     turned = t / 256 + t % 256 * 72057594037927936
 
-    go : (a : Bool) → leb turned 32 ≡ a → (b : Bool) → eqb (tag / 2) 1 ≡ b → (a || b) ≡ goodFields 32 0 0 (tag % 256) (tag / 256)
+    go : (a : Bool) → leb turned cap ≡ a → (b : Bool) → eqb (tag / 2) 1 ≡ b → (a || b) ≡ goodFields cap 0 0 (tag % 256) (tag / 256)
     go true h b g =
-        let (k, n) = turned-back tag t e (leb-true turned 32 h) in
-        sym (rw (k, le-leb (tag / 256) 32 n))
+        let (k, n) = turned-back cap tag t hc e (leb-true turned cap h) in
+        sym (rw (k, le-leb (tag / 256) cap n))
     go false h true g =
         let l = eqb-true (tag / 2) 1 g in
         let n : tag / 256 ≡ 0 = omega arith in
         let k : 1 ≤ tag % 256 = omega arith in
         let m : tag % 256 ≤ 3 = omega arith in
-        sym (rw (n, le-leb 1 (tag % 256) k, le-leb (tag % 256) 3 m, or-true))
-    go false h false g = sym (not-so _ (λ y. none (fields-good 32 0 0 (tag % 256) (tag / 256) y)))
+        sym (rw (n, le-leb 1 (tag % 256) k, le-leb (tag % 256) 3 m, le-leb 0 cap (omega arith), or-true))
+    go false h false g = sym (not-so _ (λ y. none (fields-good cap 0 0 (tag % 256) (tag / 256) y)))
       where
-        none : FieldsGood 32 0 0 (tag % 256) (tag / 256) → ⊥
+        none : FieldsGood cap 0 0 (tag % 256) (tag / 256) → ⊥
         none f = pick (eqb (tag % 256) 1) refl
           where
             pick : (b : Bool) → eqb (tag % 256) 1 ≡ b → ⊥
             pick true q =
                 let k = eqb-true (tag % 256) 1 q in
                 let n : tag ≡ t + 1 = omega arith in
-                false-true (sym h ∙ le-leb turned 32 (turned-plain tag t n k (f .fits)))
+                false-true (sym h ∙ le-leb turned cap (turned-plain cap tag t n k (f .fits)))
             pick false q =
                 let d = eqb-false (tag % 256) 1 q in
                 let l = eqb-true (tag / 256) 0 (rw q at (f .plain)) in
@@ -107,16 +107,17 @@ and-swap true true c d = refl
 and-swap true false c d = sym (and-false c)
 and-swap false b c d = refl
 
-sums-apart : (a b c d w x y z : ℕ)
-    → (eqb (bitOr a w) 0 && eqb (bitOr b x) 0 && eqb (bitOr c y) 0 && eqb (bitOr d z) 0)
-    ≡ ((eqb a 0 && eqb b 0 && eqb c 0 && eqb d 0) && (eqb w 0 && eqb x 0 && eqb y 0 && eqb z 0))
-sums-apart a b c d w x y z =
-    rw (or-none a w, or-none b x, or-none c y, or-none d z) (four (eqb a 0) (eqb b 0) (eqb c 0) (eqb d 0) (eqb w 0) (eqb x 0) (eqb y 0) (eqb z 0))
+sums-apart : (a b c d e w x y z v : ℕ)
+    → (eqb (bitOr a w) 0 && eqb (bitOr b x) 0 && eqb (bitOr c y) 0 && eqb (bitOr d z) 0 && eqb (bitOr e v) 0)
+    ≡ ((eqb a 0 && eqb b 0 && eqb c 0 && eqb d 0 && eqb e 0) && (eqb w 0 && eqb x 0 && eqb y 0 && eqb z 0 && eqb v 0))
+sums-apart a b c d e w x y z v =
+    rw (or-none a w, or-none b x, or-none c y, or-none d z, or-none e v)
+    (five (eqb a 0) (eqb b 0) (eqb c 0) (eqb d 0) (eqb e 0) (eqb w 0) (eqb x 0) (eqb y 0) (eqb z 0) (eqb v 0))
   where
-    four : (a b c d w x y z : Bool) → ((a && w) && (b && x) && (c && y) && (d && z)) ≡ ((a && b && c && d) && (w && x && y && z))
-    four a b c d w x y z =
-        ap (λ (t : Bool). t && (c && y) && (d && z)) (and-swap a w b x) ∙ ap (λ (t : Bool). t && (d && z)) (and-swap (a && b) (w && x) c y)
-        ∙ and-swap (a && b && c) (w && x && y) d z
+    five : (a b c d e w x y z v : Bool) → ((a && w) && (b && x) && (c && y) && (d && z) && (e && v)) ≡ ((a && b && c && d && e) && (w && x && y && z && v))
+    five a b c d e w x y z v =
+        ap (λ (t : Bool). t && (c && y) && (d && z) && (e && v)) (and-swap a w b x) ∙ ap (λ (t : Bool). t && (d && z) && (e && v)) (and-swap (a && b) (w && x) c y)
+        ∙ ap (λ (t : Bool). t && (e && v)) (and-swap (a && b && c) (w && x && y) d z) ∙ and-swap (a && b && c && d) (w && x && y && z) e v
 
 faults-apart : (n f : ℕ) → eqb (n + f) 0 ≡ (eqb n 0 && eqb f 0)
 faults-apart zero f = rw zero-add
@@ -156,47 +157,58 @@ module _ (least p next : ℕ) (hp : p < 2 ^ 64) (hn : next ≡ (p + 1) % 2 ^ 64)
 -- ---- the loop
 
 -- What is asked of all `count` slots is that the faults and sums so far are none, and what is asked of the `left` slots from offset `at` on.
-pub record Checked (m : List ℕ) (count low left least at faults a b c d : ℕ) : Type 0 where
-  pub so : goodSlots small count low (drop 24 m)
-      ≡ ((eqb faults 0 && (eqb a 0 && eqb b 0 && eqb c 0 && eqb d 0) && leb least limit) && goodSlots small left least (drop at m))
-  pub room : at + left * 48 ≤ length m
+pub record Checked (cap : ℕ) (m : List ℕ) (count low left least at faults a b c d e : ℕ) : Type 0 where
+  pub so : goodSlots cap count low (drop 24 m)
+      ≡ ((eqb faults 0 && (eqb a 0 && eqb b 0 && eqb c 0 && eqb d 0 && eqb e 0) && leb least limit) && goodSlots cap left least (drop at m))
+  pub room : at + left * slotSize cap ≤ length m
   pub few : faults + left ≤ count
 
-pub checked-none : (m : List ℕ) (count low : ℕ) → low ≤ limit → 24 + count * 48 ≤ length m → Checked m count low count low 24 0 0 0 0 0
-checked-none m count low l h = record { so = rw (le-leb low limit l); room = h; few = omega arith }
+pub checked-none : (cap : ℕ) (m : List ℕ) (count low : ℕ) → low ≤ limit → 24 + count * slotSize cap ≤ length m → Checked cap m count low count low 24 0 0 0 0 0 0
+checked-none cap m count low l h = record { so = rw (le-leb low limit l); room = h; few = omega arith }
 
-module _ {m : List ℕ} {count low left least at faults a b c d : ℕ} (k : Checked m count low left least at faults a b c d) where
+module _ {cap : ℕ} {m : List ℕ} {count low left least at faults a b c d e : ℕ} (k : Checked cap m count low left least at faults a b c d e) where
   slots-step : 0 < left → (p : ℕ) → p ≡ le 8 (drop at m)
-      → goodSlots small left least (drop at m) ≡ (goodSlot 32 least (drop at m) && goodSlots small (left - 1) (p + 1) (drop (at + 48) m))
+      → goodSlots cap left least (drop at m) ≡ (goodSlot cap least (drop at m) && goodSlots cap (left - 1) (p + 1) (drop (at + slotSize cap) m))
   unfolding goodSlots
   slots-step h p e =
       let l : left ≡ suc (left - 1) = omega arith in
-      ap (λ (n : ℕ). goodSlots small n least (drop at m)) l ∙ rw (drop-drop 48 at m, e)
+      ap (λ (n : ℕ). goodSlots cap n least (drop at m)) l ∙ rw (drop-drop (slotSize cap) at m, e)
 
-  pub checked-more : 0 < left → Bytes m → (full : List ℕ) → full ≡ ruler → (p next tag n f w x y z : ℕ) (t : Bool) → p < 2 ^ 64 → p ≡ le 8 (drop at m)
-      → next ≡ (p + 1) % 2 ^ 64 → tag ≡ le 8 (drop (at + 8) m) → n ≤ 32 → (tag / 256 ≤ 32 → n ≡ tag / 256) → t ≡ goodFields 32 0 0 (tag % 256) (tag / 256)
-      → f ≤ 1 → eqb f 0 ≡ (ltb least next && t)
-      → w ≡ bitAnd (le 8 (drop (at + 16) m)) (le 8 (drop (32 - n) full)) → x ≡ bitAnd (le 8 (drop (at + 24) m)) (le 8 (drop (32 - n + 8) full))
-      → y ≡ bitAnd (le 8 (drop (at + 32) m)) (le 8 (drop (32 - n + 16) full)) → z ≡ bitAnd (le 8 (drop (at + 40) m)) (le 8 (drop (32 - n + 24) full))
-      → Checked m count low (left - 1) next (at + 48) (faults + f) (bitOr a w) (bitOr b x) (bitOr c y) (bitOr d z)
-  checked-more h by full r p next tag n f w x y z t hp ep en et hn hl eh hf ef ew ex ey ez =
+  checked-left : 0 < left → at + slotSize cap + (left - 1) * slotSize cap ≤ length m
+  checked-left h =
       let l : left ≡ suc (left - 1) = omega arith in
-      let room : at + suc (left - 1) * 48 ≤ length m = rw l at (k .room) in
+      let r : at + suc (left - 1) * slotSize cap ≤ length m = rw l at (k .room) in
+      omega arith
+
+  -- the next slot lies within the memory
+  pub checked-room : 0 < left → at + slotSize cap ≤ length m
+  checked-room h = omega (arith, checked-left h)
+
+  pub checked-more : 0 < left → 32 ≤ cap → cap ≤ 80 → Bytes m → (full : List ℕ) → full ≡ ruler → (p next tag n f w x y z v : ℕ) (t : Bool) → p < 2 ^ 64
+      → p ≡ le 8 (drop at m) → next ≡ (p + 1) % 2 ^ 64 → tag ≡ le 8 (drop (at + 8) m) → n ≤ cap → (tag / 256 ≤ cap → n ≡ tag / 256)
+      → t ≡ goodFields cap 0 0 (tag % 256) (tag / 256) → f ≤ 1 → eqb f 0 ≡ (ltb least next && t)
+      → w ≡ bitAnd (le 8 (drop (at + 16) m)) (le 8 (drop (80 - n) full)) → x ≡ bitAnd (le 8 (drop (at + 24) m)) (le 8 (drop (80 - n + 8) full))
+      → y ≡ bitAnd (le 8 (drop (at + 32) m)) (le 8 (drop (80 - n + 16) full)) → z ≡ bitAnd (le 8 (drop (at + 40) m)) (le 8 (drop (80 - n + 24) full))
+      → eqb v 0 ≡ zeros (cap - 32 - (80 - (80 - n + 32))) (drop (at + 48 + (80 - (80 - n + 32))) m)
+      → Checked cap m count low (left - 1) next (at + slotSize cap) (faults + f) (bitOr a w) (bitOr b x) (bitOr c y) (bitOr d z) (bitOr e v)
+  checked-more h c32 c80 by full r p next tag n f w x y z v t hp ep en et hn hl eh hf ef ew ex ey ez ev =
+      let room = checked-left h in
       let up : (i j : ℕ) → at + i + j ≡ at + (i + j) = λ i j. omega arith in
-      let words = rest-words n (at + 16) m full by hn r w x y z ew (rw (up 16 8) ex) (rw (up 16 16) ey) (rw (up 16 24) ez) in
-      let slot = slot-words 32 least at m by (omega arith) (omega arith) p tag n _ _ ep et (sym (fields-apart 32 least p (tag % 256) (tag / 256))) hl words in
+      let words = rest-words n (at + 16) m full by r cap (le-trans hn c80) c32 w x y z v ew (rw (up 16 8) ex) (rw (up 16 16) ey) (rw (up 16 24) ez) (rw (up 16 32) ev) in
+      let slot = slot-words cap least at m by (omega arith) (omega arith) p tag n _ _ ep et (sym (fields-apart cap least p (tag % 256) (tag / 256))) hl words in
       record {
-        so = k .so ∙ rw (slots-step h p ep, ← slot, ← eh, faults-apart faults f, ef, sums-apart a b c d w x y z)
-            (rises least p next hp en (λ (q : ℕ). goodSlots small (left - 1) q (drop (at + 48) m)) (eqb faults 0) (eqb a 0 && eqb b 0 && eqb c 0 && eqb d 0) t
-            (eqb w 0 && eqb x 0 && eqb y 0 && eqb z 0) (leb least p && ltb p limit) refl);
-        room = omega arith;
-        few = omega arith;
+        so = k .so ∙ rw (slots-step h p ep, ← slot, ← eh, faults-apart faults f, ef, sums-apart a b c d e w x y z v)
+            (rises least p next hp en (λ (q : ℕ). goodSlots cap (left - 1) q (drop (at + slotSize cap) m)) (eqb faults 0)
+            (eqb a 0 && eqb b 0 && eqb c 0 && eqb d 0 && eqb e 0) t
+            (eqb w 0 && eqb x 0 && eqb y 0 && eqb z 0 && eqb v 0) (leb least p && ltb p limit) refl);
+        room = room;
+        few = omega (arith, k .few);
       }
 
   pub checked-all : (z : Bool) → left ≤ 0 → z ≡ zeros (length m - at) (drop at m)
-      → (eqb faults 0 && (eqb a 0 && eqb b 0 && eqb c 0 && eqb d 0) && leb least limit && z) ≡ goodSlots small count low (drop 24 m)
+      → (eqb faults 0 && (eqb a 0 && eqb b 0 && eqb c 0 && eqb d 0 && eqb e 0) && leb least limit && z) ≡ goodSlots cap count low (drop 24 m)
   unfolding goodSlots
-  checked-all z h e =
+  checked-all z h y =
       let l : left ≡ 0 = omega arith in
-      let g : goodSlots small left least (drop at m) ≡ z = ap (λ (n : ℕ). goodSlots small n least (drop at m)) l ∙ rw (length-drop at m, e) in
+      let g : goodSlots cap left least (drop at m) ≡ z = ap (λ (n : ℕ). goodSlots cap n least (drop at m)) l ∙ rw (length-drop at m, y) in
       sym (k .so ∙ rw g)

@@ -1,12 +1,12 @@
 -- Laws of good memory: a slot's goodness at an offset, and one turn of the loop over the slots.
-use Prim.Native.Nat.{ℕ, suc, _+_, _*_, _-_, _/_, _%_, _<_, _≤_}
+use Prim.Native.Nat.{ℕ, zero, suc, _+_, _*_, _-_, _/_, _%_, _<_, _≤_}
 use mathlib.Core.Bool.{Bool, true, false, _&&_, _||_}
 use mathlib.Core.List.{List}
 use mathlib.Core.Path.{_≡_, refl, sym, ap, _∙_}
 use native.Mathlib.Omega.{arith}
-use native.Mathlib.Nat.{add-assoc}
+use native.Mathlib.Nat.{add-assoc, mul-le-mul-right}
 use borrow.Author.Tests.{leb-true, leb-false, le-leb, lt-leb, ltb-true, eqb-true, eq-eqb, ne-eqb}
-use lib.Dec.{leb, ltb, eqb}
+use lib.Dec.{leb, ltb, eqb, eqb·suc-zero}
 use lib.ListN.{length, getD, drop, length-drop}
 use lib.Seq.{getD-drop, drop-drop}
 use Rattle.num.specs.Bytes.{le}
@@ -17,7 +17,7 @@ use Rattle.num.proofs.Tests.{and-both, and-false}
 use Rattle.num.proofs.Numbers.{Bytes, le-two, le-pair}
 use Rattle.unit.proofs.Fields.{and-assoc}
 use Rattle.unit.proofs.Words.{le-none}
-use Rattle.unit.specs.Memory.{goodFields, goodSlot, goodSlots, goodHeader, good, floorOf, countOf, numberOf}
+use Rattle.unit.specs.Memory.{goodFields, goodSlot, goodSlots, goodHeader, good, floorOf, countOf, numberOf, codeOf}
 
 -- what good fields say
 pub record FieldsGood (cap low p kind len : ℕ) : Type 0 where
@@ -48,7 +48,7 @@ fields-long : (cap low p kind len : ℕ) → cap < len → goodFields cap low p 
 fields-long cap low p kind len h = rw (lt-leb len cap h, and-false)
 
 -- a slot's second word: its kind, its length and the six bytes behind them
-pub tag-parts : (at : ℕ) (m : List ℕ) → at + 48 ≤ length m
+pub tag-parts : (at : ℕ) (m : List ℕ) → at + 16 ≤ length m
     → le 8 (drop (at + 8) m) ≡ getD m (at + 8) 0 + 256 * (getD m (at + 9) 0 + 256 * le 6 (drop (at + 10) m))
 tag-parts at m h =
     let e9 : at + 8 + 1 ≡ at + 9 = omega arith in
@@ -89,7 +89,7 @@ words-test cap low p tag kind len rest n f z last c hk hl ht hf hn hz = go (leb 
         let e0 = leb-false rest 0 e in
         sym (rw (e, and-false, long (omega arith)))
 
-pub slot-words : (cap low at : ℕ) (m : List ℕ) → Bytes m → at + 48 ≤ length m → cap < 256 → (p tag n : ℕ) (f z : Bool)
+pub slot-words : (cap low at : ℕ) (m : List ℕ) → Bytes m → at + 16 ≤ length m → cap < 256 → (p tag n : ℕ) (f z : Bool)
     → p ≡ le 8 (drop at m) → tag ≡ le 8 (drop (at + 8) m) → f ≡ goodFields cap low p (tag % 256) (tag / 256) → (tag / 256 ≤ cap → n ≡ tag / 256)
     → z ≡ zeros (cap - n) (drop (at + 16 + n) m) → (f && z) ≡ goodSlot cap low (drop at m)
 slot-words cap low at m by r c p tag n f z hp ht hf hn hz =
@@ -104,13 +104,18 @@ unfolding goodSlot
 slot-fields cap low xs h = fields-good cap low (le 8 xs) (getD xs 8 0) (getD xs 9 0) (and-both _ _ h .0)
 
 -- a header's last word: the count and the six bytes behind it
-pub header-words : (sh : Shape) (m : List ℕ) (number floor last : ℕ) → number ≡ numberOf m → floor ≡ floorOf m → last ≡ le 8 (drop 16 m) → sh .room < 65536
-    → (leb 1 number && leb number 8 && leb floor limit && leb last (sh .room)) ≡ goodHeader sh m
+pub header-words : (sh : Shape) (m : List ℕ) (number code blank floor last : ℕ) → number ≡ numberOf m → code ≡ codeOf m → blank ≡ le 2 (drop 2 m)
+    → floor ≡ floorOf m → last ≡ le 8 (drop 16 m) → sh .room < 65536
+    → (leb 1 number && leb number 8 && eqb code (sh .code) && eqb blank 0 && leb floor limit && leb last (sh .room)) ≡ goodHeader sh m
 unfolding goodHeader
-header-words sh m number floor last en ef el h =
-    rw (en, ef, el, le-two 2 6 16 m, both (sh .room) (countOf m) (le 6 (drop 18 m)) h, le-none 6 (drop 18 m))
-    (sym (and-assoc (leb 1 (numberOf m) && leb (numberOf m) 8 && leb (floorOf m) limit) (leb (countOf m) (sh .room)) (zeros 6 (drop 18 m))))
+header-words sh m number code blank floor last en ec eb ef el h =
+    rw (en, ec, eb, ef, el, none (le 2 (drop 2 m)), le-none 2 (drop 2 m), le-two 2 6 16 m, both (sh .room) (countOf m) (le 6 (drop 18 m)) h, le-none 6 (drop 18 m))
+    (sym (and-assoc (leb 1 (numberOf m) && leb (numberOf m) 8 && eqb (codeOf m) (sh .code) && zeros 2 (drop 2 m) && leb (floorOf m) limit) (leb (countOf m) (sh .room)) (zeros 6 (drop 18 m))))
   where
+    none : (n : ℕ) → eqb n 0 ≡ leb n 0
+    none zero = refl
+    none (suc n) = rw (eqb·suc-zero n) (sym (lt-leb (suc n) 0 (omega arith)))
+
     both : (room a r : ℕ) → room < 65536 → leb (a + 65536 * r) room ≡ (leb a room && leb r 0)
     both room a r h = go (leb a room) refl (leb r 0) refl
       where
@@ -123,6 +128,8 @@ header-words sh m number floor last en ef el h =
 pub record HeaderGood (sh : Shape) (m : List ℕ) : Type 0 where
   pub least : 1 ≤ numberOf m
   pub most : numberOf m ≤ 8
+  pub named : codeOf m ≡ sh .code
+  pub blank : zeros 2 (drop 2 m) ≡ true
   pub floor : floorOf m ≤ limit
   pub count : countOf m ≤ sh .room
   pub spare : zeros 6 (drop 18 m) ≡ true
@@ -130,11 +137,13 @@ pub record HeaderGood (sh : Shape) (m : List ℕ) : Type 0 where
 pub header-good : (sh : Shape) (m : List ℕ) → goodHeader sh m ≡ true → HeaderGood sh m
 unfolding goodHeader
 header-good sh m h =
-    let (h4, e) = and-both (leb 1 (numberOf m) && leb (numberOf m) 8 && leb (floorOf m) limit && leb (countOf m) (sh .room)) (zeros 6 (drop 18 m)) h in
-    let (h3, d) = and-both (leb 1 (numberOf m) && leb (numberOf m) 8 && leb (floorOf m) limit) (leb (countOf m) (sh .room)) h4 in
-    let (h2, c) = and-both (leb 1 (numberOf m) && leb (numberOf m) 8) (leb (floorOf m) limit) h3 in
+    let (h6, e) = and-both (leb 1 (numberOf m) && leb (numberOf m) 8 && eqb (codeOf m) (sh .code) && zeros 2 (drop 2 m) && leb (floorOf m) limit && leb (countOf m) (sh .room)) (zeros 6 (drop 18 m)) h in
+    let (h5, d) = and-both (leb 1 (numberOf m) && leb (numberOf m) 8 && eqb (codeOf m) (sh .code) && zeros 2 (drop 2 m) && leb (floorOf m) limit) (leb (countOf m) (sh .room)) h6 in
+    let (h4, c) = and-both (leb 1 (numberOf m) && leb (numberOf m) 8 && eqb (codeOf m) (sh .code) && zeros 2 (drop 2 m)) (leb (floorOf m) limit) h5 in
+    let (h3, z) = and-both (leb 1 (numberOf m) && leb (numberOf m) 8 && eqb (codeOf m) (sh .code)) (zeros 2 (drop 2 m)) h4 in
+    let (h2, n) = and-both (leb 1 (numberOf m) && leb (numberOf m) 8) (eqb (codeOf m) (sh .code)) h3 in
     let (a, b) = and-both (leb 1 (numberOf m)) (leb (numberOf m) 8) h2 in
-    record { least = leb-true _ _ a; most = leb-true _ _ b; floor = leb-true _ _ c; count = leb-true _ _ d; spare = e }
+    record { least = leb-true _ _ a; most = leb-true _ _ b; named = eqb-true _ _ n; blank = z; floor = leb-true _ _ c; count = leb-true _ _ d; spare = e }
 
 -- the three answers of the test of a memory
 module _ (sh : Shape) (m : List ℕ) where
@@ -147,7 +156,7 @@ module _ (sh : Shape) (m : List ℕ) where
   good-header h l e f = sym (rw (eq-eqb _ _ l, ← e, f))
 
   pub good-slots : (h s : Bool) (n low : ℕ) → length m ≡ memorySize sh → h ≡ goodHeader sh m → h ≡ true → n ≡ countOf m → low ≡ floorOf m
-      → s ≡ goodSlots sh n low (drop 24 m) → s ≡ good sh m
+      → s ≡ goodSlots (sh .cap) n low (drop 24 m) → s ≡ good sh m
   unfolding good
   good-slots h s n low l e t hn hl hs = sym (rw (eq-eqb _ _ l, ← e, t, ← hn, ← hl, ← hs))
 
@@ -155,11 +164,19 @@ module _ (sh : Shape) (m : List ℕ) where
 pub record Good (sh : Shape) (m : List ℕ) : Type 0 where
   pub size : length m ≡ memorySize sh
   pub header : HeaderGood sh m
-  pub slots : goodSlots sh (countOf m) (floorOf m) (drop 24 m) ≡ true
+  pub slots : goodSlots (sh .cap) (countOf m) (floorOf m) (drop 24 m) ≡ true
 
 pub is-good : (sh : Shape) (m : List ℕ) → good sh m ≡ true → Good sh m
 unfolding good
 is-good sh m h =
-    let (a, r) = and-both (eqb (length m) (memorySize sh)) (goodHeader sh m && goodSlots sh (countOf m) (floorOf m) (drop 24 m)) h in
-    let (b, c) = and-both (goodHeader sh m) (goodSlots sh (countOf m) (floorOf m) (drop 24 m)) r in
+    let (a, r) = and-both (eqb (length m) (memorySize sh)) (goodHeader sh m && goodSlots (sh .cap) (countOf m) (floorOf m) (drop 24 m)) h in
+    let (b, c) = and-both (goodHeader sh m) (goodSlots (sh .cap) (countOf m) (floorOf m) (drop 24 m)) r in
     record { size = eqb-true _ _ a; header = header-good sh m b; slots = c }
+
+-- Offsets of slots are products of two values, which `omega` takes as one: how far k slots reach, and that one more lies within.
+module _ (sh : Shape) (m : List ℕ) (size : length m ≡ memorySize sh) (k : ℕ) where
+  pub slots-within : k ≤ sh .room → 24 + k * slotSize (sh .cap) ≤ length m
+  slots-within h = omega (arith, size, mul-le-mul-right {m = k} {n = sh .room} (slotSize (sh .cap)) h)
+
+  pub slot-within : k < sh .room → 24 + k * slotSize (sh .cap) + slotSize (sh .cap) ≤ length m
+  slot-within h = omega (arith, size, mul-le-mul-right {m = suc k} {n = sh .room} (slotSize (sh .cap)) h)

@@ -3,6 +3,7 @@ pub mod Fields
 pub mod Words
 pub mod Goodness
 pub mod Checking
+pub mod Shapes
 pub mod Places
 pub mod Answers
 pub mod Stores
@@ -20,3 +21,4 @@ pub mod Lasting
 pub mod Shown
 pub mod Marks
 pub mod Payload
+pub mod Both

@@ -95,30 +95,30 @@ all-at f (suc n) k h l = go (eqb k n) refl (λ below. all-at f n k (and-both (f 
         below d = omega arith
 
 -- a word of the ruler
-ruled : ℕ → ℕ → Bool
-ruled i n = eqb (le 8 (drop (32 - n + 8 * i) ruler)) (past (n - 8 * i) 8)
+ruled : ℕ → Bool
+ruled j = eqb (le 8 (drop j ruler)) (past (80 - j) 8)
 
-ruler-ruled : all (λ i. all (ruled i) 33) 4 ≡ true
+ruler-ruled : all ruled 153 ≡ true
 unfolding all ruled le ruler past
 ruler-ruled = refl
 
-pub ruler-word : (i n : ℕ) → i < 4 → n ≤ 32 → le 8 (drop (32 - n + 8 * i) ruler) ≡ past (n - 8 * i) 8
+ruler-word : (j : ℕ) → j < 153 → le 8 (drop j ruler) ≡ past (80 - j) 8
 unfolding ruled
-ruler-word i n h l = eqb-true _ _ (all-at (ruled i) 33 n (all-at (λ j. all (ruled j) 33) 4 i ruler-ruled h) (omega arith))
+ruler-word j h = eqb-true _ _ (all-at ruled 153 j ruler-ruled h)
 
-pub ruler-length : length ruler ≡ 64
+pub ruler-length : length ruler ≡ 160
 unfolding ruler
 ruler-length = refl
 
-pub ruler-made : sets (replicate 64 255) 0 (replicate 32 0) ≡ ruler
+pub ruler-made : sets (replicate 160 255) 0 (replicate 80 0) ≡ ruler
 unfolding ruler
 ruler-made = refl
 
 -- a word of the memory under the ruler's
-word-past : (i n j k at : ℕ) (m full : List ℕ) → Bytes m → i < 4 → n ≤ 32 → full ≡ ruler → j ≡ 32 - n + 8 * i → k ≡ n - 8 * i → (w : ℕ)
+word-past : (k j at : ℕ) (m full : List ℕ) → Bytes m → full ≡ ruler → j < 153 → k ≡ 80 - j → (w : ℕ)
     → w ≡ bitAnd (le 8 (drop at m)) (le 8 (drop j full)) → eqb w 0 ≡ zeros (8 - k) (drop k (drop at m))
-word-past i n j k at m full by h l e ej ek w ew =
-    rw (ek, ew, e, ej, ruler-word i n h l) (and-past (n - 8 * i) 8 (drop at m) (bytes-drop at m by))
+word-past k j at m full by e h ek w ew =
+    rw (ek, ew, e, ruler-word j h) (and-past (80 - j) 8 (drop at m) (bytes-drop at m by))
 
 -- ---- runs one behind the other
 
@@ -143,45 +143,93 @@ zeros-past (suc a) b zero xs = rw (sub-zero, sub-zero, zero-sub, sub-zero) (zero
 zeros-past (suc a) b (suc n) [] = rw (zeros-empty (suc a + b - suc n), zeros-empty (suc a - suc n), drop-nil (suc n - suc a)) (sym (zeros-empty (b - (suc n - suc a))))
 zeros-past (suc a) b (suc n) (x ∷ xs) = rw (suc-add, suc-sub-suc, suc-sub-suc, suc-sub-suc) (zeros-past a b n xs)
 
--- the four words of a payload
-payload-words : (n at : ℕ) (m : List ℕ) (a b c d : Bool)
-    → a ≡ zeros (8 - n) (drop n (drop at m)) → b ≡ zeros (8 - (n - 8)) (drop (n - 8) (drop (at + 8) m))
-    → c ≡ zeros (8 - (n - 16)) (drop (n - 16) (drop (at + 16) m)) → d ≡ zeros (8 - (n - 24)) (drop (n - 24) (drop (at + 24) m))
-    → (a && b && c && d) ≡ zeros (32 - n) (drop (at + n) m)
-payload-words n at m a b c d ea eb ec ed =
-    let r = drop at m in
-    let e16 : n - 8 - 8 ≡ n - 16 = omega arith in
-    let e24 : n - 16 - 8 ≡ n - 24 = omega arith in
-    let p0 : zeros (32 - n) (drop n r) ≡ (a && zeros (24 - (n - 8)) (drop (n - 8) (drop (at + 8) m)))
-    = zeros-past 8 24 n r ∙ rw (← ea, drop-drop 8 at m) in
-    let p1 : zeros (24 - (n - 8)) (drop (n - 8) (drop (at + 8) m)) ≡ (b && zeros (16 - (n - 16)) (drop (n - 16) (drop (at + 16) m)))
-    = zeros-past 8 16 (n - 8) (drop (at + 8) m) ∙ rw (← eb, e16, drop-drop 8 (at + 8) m, plus8 at 8) in
-    let p2 : zeros (16 - (n - 16)) (drop (n - 16) (drop (at + 16) m)) ≡ (c && d)
-    = zeros-past 8 8 (n - 16) (drop (at + 16) m) ∙ rw (← ec, e24, drop-drop 8 (at + 16) m, plus8 at 16, ← ed) in
-    and-assoc (a && b) c d ∙ and-assoc a b (c && d) ∙ sym (rw (← drop-drop n at m) (p0 ∙ ap (λ (t : Bool). a && t) (p1 ∙ ap (λ (t : Bool). b && t) p2)))
-  where
-    plus8 : (x k : ℕ) → x + k + 8 ≡ x + (k + 8)
-    plus8 x k = omega arith
-
-pub rest-words : (n at : ℕ) (m full : List ℕ) → Bytes m → n ≤ 32 → full ≡ ruler → (a b c d : ℕ)
-    → a ≡ bitAnd (le 8 (drop at m)) (le 8 (drop (32 - n) full)) → b ≡ bitAnd (le 8 (drop (at + 8) m)) (le 8 (drop (32 - n + 8) full))
-    → c ≡ bitAnd (le 8 (drop (at + 16) m)) (le 8 (drop (32 - n + 16) full)) → d ≡ bitAnd (le 8 (drop (at + 24) m)) (le 8 (drop (32 - n + 24) full))
-    → (eqb a 0 && eqb b 0 && eqb c 0 && eqb d 0) ≡ zeros (32 - n) (drop (at + n) m)
-rest-words n at m full by l e a b c d ea eb ec ed =
-    payload-words n at m (eqb a 0) (eqb b 0) (eqb c 0) (eqb d 0)
-    (word-past 0 n (32 - n) n at m full by (omega arith) l e (omega arith) (omega arith) a ea)
-    (word-past 1 n (32 - n + 8) (n - 8) (at + 8) m full by (omega arith) l e (omega arith) (omega arith) b eb)
-    (word-past 2 n (32 - n + 16) (n - 16) (at + 16) m full by (omega arith) l e (omega arith) (omega arith) c ec)
-    (word-past 3 n (32 - n + 24) (n - 24) (at + 24) m full by (omega arith) l e (omega arith) (omega arith) d ed)
-
--- ---- bytes joined by `|`
-
+-- of two numbers joined by `|` none has anything just where the joined one has nothing
 pub or-none : (a b : ℕ) → eqb (bitOr a b) 0 ≡ (eqb a 0 && eqb b 0)
 or-none zero b = rw (or-zero-l b)
 or-none (suc a) b = ne-eqb (bitOr (suc a) b) 0 (λ z. more z (or-add-and (suc a) b) (and-le-r (suc a) b)) ∙ sym (rw (eqb·suc-zero a))
   where
     more : bitOr (suc a) b ≡ 0 → bitOr (suc a) b + bitAnd (suc a) b ≡ suc a + b → bitAnd (suc a) b ≤ b → ⊥
     more z e l = omega arith
+
+-- ---- the words of a payload of which all but the first n bytes are to be zero: `so` is that of its first i bytes
+rest-none : (n at : ℕ) (m : List ℕ) → true ≡ zeros (0 - n) (drop (at + n) m)
+unfolding zeros
+rest-none n at m = rw zero-sub
+
+module _ (n at : ℕ) (m full : List ℕ) (by : Bytes m) (e : full ≡ ruler) where
+  -- one word more
+  pub rest-next : (i o j : ℕ) (so : Bool) → so ≡ zeros (i - n) (drop (at + n) m) → j < 153 → o ≡ at + i → n - i ≡ 80 - j → (w : ℕ)
+      → w ≡ bitAnd (le 8 (drop o m)) (le 8 (drop j full)) → (so && eqb w 0) ≡ zeros (i + 8 - n) (drop (at + n) m)
+  rest-next i o j so h l eo ej w ew =
+      let r = drop at m in
+      let x : eqb w 0 ≡ zeros (8 - (n - i)) (drop (n - i) (drop i r))
+      = word-past (n - i) j o m full by e l ej w ew ∙ rw (eo, ← drop-drop i at m) in
+      let q : so ≡ zeros (i - n) (drop n r) = rw (← drop-drop n at m) at h in
+      sym (rw (← drop-drop n at m) (zeros-past i 8 n r ∙ rw (← q, ← x)))
+
+  rest-four : n ≤ 80 → (a b c d : ℕ)
+      → a ≡ bitAnd (le 8 (drop at m)) (le 8 (drop (80 - n) full)) → b ≡ bitAnd (le 8 (drop (at + 8) m)) (le 8 (drop (80 - n + 8) full))
+      → c ≡ bitAnd (le 8 (drop (at + 16) m)) (le 8 (drop (80 - n + 16) full)) → d ≡ bitAnd (le 8 (drop (at + 24) m)) (le 8 (drop (80 - n + 24) full))
+      → (eqb a 0 && eqb b 0 && eqb c 0 && eqb d 0) ≡ zeros (32 - n) (drop (at + n) m)
+  rest-four l a b c d ea eb ec ed =
+      rest-next 24 (at + 24) (80 - n + 24) _
+      (rest-next 16 (at + 16) (80 - n + 16) _
+      (rest-next 8 (at + 8) (80 - n + 8) _
+      (rest-next 0 at (80 - n) true (rest-none n at m) (omega arith) (omega arith) (omega arith) a ea)
+      (omega arith) (omega arith) (omega arith) b eb)
+      (omega arith) (omega arith) (omega arith) c ec)
+      (omega arith) (omega arith) (omega arith) d ed
+
+  -- four words, and what is joined of the others
+  pub rest-words : (cap : ℕ) → n ≤ 80 → 32 ≤ cap → (a b c d v : ℕ)
+      → a ≡ bitAnd (le 8 (drop at m)) (le 8 (drop (80 - n) full)) → b ≡ bitAnd (le 8 (drop (at + 8) m)) (le 8 (drop (80 - n + 8) full))
+      → c ≡ bitAnd (le 8 (drop (at + 16) m)) (le 8 (drop (80 - n + 16) full)) → d ≡ bitAnd (le 8 (drop (at + 24) m)) (le 8 (drop (80 - n + 24) full))
+      → eqb v 0 ≡ zeros (cap - 32 - (80 - (80 - n + 32))) (drop (at + 32 + (80 - (80 - n + 32))) m)
+      → (eqb a 0 && eqb b 0 && eqb c 0 && eqb d 0 && eqb v 0) ≡ zeros (cap - n) (drop (at + n) m)
+  rest-words cap l h a b c d v ea eb ec ed ev =
+      let r = drop at m in
+      let k : 80 - (80 - n + 32) ≡ n - 32 = omega arith in
+      let g : 32 + (cap - 32) ≡ cap = omega arith in
+      let four : (eqb a 0 && eqb b 0 && eqb c 0 && eqb d 0) ≡ zeros (32 - n) (drop n r) = rw (← drop-drop n at m) at (rest-four l a b c d ea eb ec ed) in
+      let rest : eqb v 0 ≡ zeros (cap - 32 - (n - 32)) (drop (n - 32) (drop 32 r)) = ev ∙ rw (k, ← drop-drop (n - 32) (at + 32) m, ← drop-drop 32 at m) in
+      let all : zeros (32 + (cap - 32) - n) (drop n r) ≡ (eqb a 0 && eqb b 0 && eqb c 0 && eqb d 0 && eqb v 0)
+      = zeros-past 32 (cap - 32) n r ∙ rw (← four, ← rest) in
+      sym (rw (← drop-drop n at m) (ap (λ (q : ℕ). zeros (q - n) (drop n r)) (sym g) ∙ all))
+
+-- The loop that joins them, two a turn: i bytes are tested.
+pub record Rested (m : List ℕ) (size at n i sum : ℕ) : Type 0 where
+  pub tested : eqb sum 0 ≡ zeros (i - n) (drop (at + n) m)
+  pub even : i % 16 ≡ 0
+  pub bound : i ≤ size
+
+pub rested-none : (m : List ℕ) (size at n : ℕ) → Rested m size at n 0 0
+rested-none m size at n = record { tested = rest-none n at m; even = refl; bound = omega arith }
+
+module _ {m : List ℕ} {size at n i sum : ℕ} (t : Rested m size at n i sum) where
+  -- the next two words lie within the payload
+  pub rested-room : i < size → size % 16 ≡ 0 → i + 16 ≤ size
+  rested-room h e = omega (arith, t .even)
+
+  pub rested-more : (full : List ℕ) (k : ℕ) → Bytes m → full ≡ ruler → n ≡ 80 - k → k + size ≤ 160 → i < size → size % 16 ≡ 0 → (a b : ℕ)
+      → a ≡ bitAnd (le 8 (drop (at + i) m)) (le 8 (drop (k + i) full)) → b ≡ bitAnd (le 8 (drop (at + i + 8) m)) (le 8 (drop (k + i + 8) full))
+      → Rested m size at n (i + 16) (bitOr (bitOr sum a) b)
+  rested-more full k by e en r h s16 a b ea eb =
+      let l = rested-room h s16 in
+      let v = t .even in
+      let g : i + 8 + 8 ≡ i + 16 = omega arith in
+      let x : (eqb sum 0 && eqb a 0) ≡ zeros (i + 8 - n) (drop (at + n) m)
+      = rest-next n at m full by e i (at + i) (k + i) (eqb sum 0) (t .tested) (omega arith) (omega arith) (omega arith) a ea in
+      let y : (eqb sum 0 && eqb a 0 && eqb b 0) ≡ zeros (i + 8 + 8 - n) (drop (at + n) m)
+      = rest-next n at m full by e (i + 8) (at + i + 8) (k + i + 8) (eqb sum 0 && eqb a 0) x (omega arith) (omega arith) (omega arith) b eb in
+      record { tested = or-none (bitOr sum a) b ∙ rw (or-none sum a) (rw g at y); even = omega arith; bound = omega arith }
+
+  pub rested-all : size ≤ i → eqb sum 0 ≡ zeros (size - n) (drop (at + n) m)
+  rested-all h =
+      let b = t .bound in
+      let g : i ≡ size = omega arith in
+      rw g at (t .tested)
+
+-- ---- bytes joined by `|`
 
 -- The loop that joins the bytes from offset `at` on: the first i of them are in `seen`.
 pub record Joined (mem : List ℕ) (at i seen : ℕ) : Type 0 where

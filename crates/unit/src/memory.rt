@@ -1,17 +1,20 @@
 // Good memory, and the unit that it holds.
 ghost use mathlib.Core.Path.{_≡_};
-ghost use Prim.Native.Nat.{_+_, _*_, _/_, _%_, _≤_};
+ghost use Prim.Native.Nat.{_+_, _*_, _-_, _/_, _%_, _<_, _≤_};
 ghost use lib.Bits.{bitAnd};
 ghost use lib.Dec.{eqb};
 ghost use lib.ListN.{length, drop};
 ghost use Rattle.num.specs.Bytes.{le};
 ghost use Rattle.num.specs.Limits.{limit};
-ghost use Rattle.unit.specs.Shape.{small};
-ghost use Rattle.unit.specs.Zeros.{ruler};
+ghost use Rattle.unit.specs.Shape.{slotSize, shapeOf};
+ghost use Rattle.unit.specs.Zeros.{zeros, ruler};
 ghost use Rattle.unit.specs.Memory.{goodFields, goodSlots, goodHeader, good as goodMemory};
 use crate::field::number_at;
 use crate::field::zeros_at;
+use crate::shape::Shape;
+use crate::shape::shape_of;
 use crate::store::put_zeros;
+use crate::word::pair_at;
 use crate::word::word_at;
 use num::Position;
 
@@ -21,33 +24,27 @@ impl Unit {
     // Units are numbered from 1 to it.
     pub const UNITS: u32 = 8;
 
-    // Bytes of payload that a slot holds.
-    pub const PAYLOAD: usize = 32;
-
-    pub const SLOTS: u64 = 128;
-
-    // Bytes of the header, of a slot, of the whole memory.
+    // Bytes of the header, and of the whole memory in either shape.
     pub const HEADER: usize = 24;
-
-    pub const SLOT: usize = 48;
 
     pub const SIZE: usize = 6168;
 }
 
-// Whether a slot may have this second word, of its kind, its length and six zeros, whatever its position. One less and turned by a byte it is the length
-// where the kind is 1, and large otherwise; the other kinds have no length.
-fn good_tag(tag: u64) -> bool
-    ensures { λ r. ⌜ r ≡ goodFields 32 0 0 (tag % 256) (tag / 256) ⌝ }
+// Whether a slot of `cap` bytes of payload may have this second word, of its kind, its length and six zeros, whatever its position. One less and turned
+// by a byte it is the length where the kind is 1, and large otherwise; the other kinds have no length.
+fn good_tag(cap: usize, tag: u64) -> bool
+    requires { ⌜ cap ≤ 80 ⌝ }
+    ensures { λ r. ⌜ r ≡ goodFields cap 0 0 (tag % 256) (tag / 256) ⌝ }
 {
     let t = std::num::wrapping_sub_u64(tag, 1);
-    (t / 256 + t % 256 * 72_057_594_037_927_936 <= 32) | (tag / 2 == 1)
+    ((t / 256 + t % 256 * 72_057_594_037_927_936) as usize <= cap) | (tag / 2 == 1)
 }
 
-// A length that a payload may have, as it is; and any other as 0.
-fn short(len: u64) -> usize
-    ensures { λ r. ⌜ (r ≤ 32) × (len ≤ 32 → r ≡ len) ⌝ }
+// A length that a payload of at most `cap` bytes may have, as it is; and any other as 0.
+fn short(cap: usize, len: usize) -> usize
+    ensures { λ r. ⌜ (r ≤ cap) × (len ≤ cap → r ≡ len) ⌝ }
 {
-    if len <= 32 { len as usize } else { 0 }
+    if len <= cap { len } else { 0 }
 }
 
 // What counts a slot that is not good.
@@ -65,20 +62,41 @@ fn masked(mem: &[u8], at: usize, full: &[u8], k: usize) -> u64
     word_at(mem, at) & word_at(full, k)
 }
 
-// Whether the header is good. The count and the six zeros are one word: with another byte in it the count is too large.
-fn good_header(mem: &[u8]) -> bool
-    requires { ⌜ 24 ≤ length (now mem) ⌝ }
-    ensures { λ r. ⌜ r ≡ goodHeader small (now (mem .entry)) ⌝ }
+// The words of `size` bytes, so masked and joined, two a turn: nothing is left just where all bytes are zero but those before the ruler's full ones.
+fn joined(mem: &[u8], at: usize, size: usize, full: &[u8], k: usize) -> u64
+    requires { ⌜ (at + size ≤ length (now mem)) × (now full ≡ ruler) × (k + size ≤ 160) × (size % 16 ≡ 0) ⌝ }
+    ensures { λ r. ⌜ eqb r 0 ≡ zeros (size - (80 - k)) (drop (at + (80 - k)) (now (mem .entry))) ⌝ }
 {
-    let number = number_at(mem, 0, 4);
-    (1 <= number) & (number <= 8) & (word_at(mem, 8) <= Position::LIMIT) & (word_at(mem, 16) <= 128)
+    let mut sum: u64 = 0;
+    let mut i: usize = 0;
+    while i < size {
+        sum = sum | masked(mem, at + i, full, k + i) | masked(mem, at + i + 8, full, k + i + 8);
+        i += 16;
+    }
+    sum
 }
 
-// Whether `count` good slots stand behind the header, in rising position from `low` on, and zeros after them. No early exit, and a sum for each word of a
-// payload: the compiler brings them together once, and not for each slot. A position that wraps is 0 as the next one's least, and fails.
-fn slots_good(mem: &[u8], count: u64, low: u64, full: &[u8]) -> bool
-    requires { ⌜ (24 + count * 48 ≤ length (now mem)) × (count ≤ 128) × (low ≤ limit) × (now full ≡ ruler) ⌝ }
-    ensures { λ r. ⌜ r ≡ goodSlots small count low (drop 24 (now (mem .entry))) ⌝ }
+// Whether the header is good. The count and the six zeros are one word: with another byte in it the count is too large.
+fn good_header(mem: &[u8], sh: Shape) -> bool
+    requires { ⌜ (24 ≤ length (now mem)) × (sh .room < 65536) ⌝ }
+    ensures { λ r. ⌜ r ≡ goodHeader sh (now (mem .entry)) ⌝ }
+{
+    let number = mem[0];
+    let code = mem[1];
+    (1 <= number)
+        & (number <= 8)
+        & (code == sh.code)
+        & (pair_at(mem, 2) == 0)
+        & (word_at(mem, 8) <= Position::LIMIT)
+        & (word_at(mem, 16) <= sh.room)
+}
+
+// Whether `count` good slots stand behind the header, in rising position from `low` on, and zeros after them. No early exit, and a sum for each of the first
+// four words of a payload and one for the others: the compiler brings them together once, and not for each slot. A position that wraps is 0 as the next
+// one's least, and fails.
+fn slots_good(mem: &[u8], cap: usize, count: u64, low: u64, full: &[u8]) -> bool
+    requires { ⌜ (24 + count * slotSize cap ≤ length (now mem)) × (low ≤ limit) × (now full ≡ ruler) × (32 ≤ cap) × (cap ≤ 80) × (cap % 16 ≡ 0) ⌝ }
+    ensures { λ r. ⌜ r ≡ goodSlots cap count low (drop 24 (now (mem .entry))) ⌝ }
 {
     let mut left = count;
     let mut least = low;
@@ -88,44 +106,47 @@ fn slots_good(mem: &[u8], count: u64, low: u64, full: &[u8]) -> bool
     let mut b: u64 = 0;
     let mut c: u64 = 0;
     let mut d: u64 = 0;
+    let mut e: u64 = 0;
     while 0 < left {
         let next = std::num::wrapping_add_u64(word_at(mem, at), 1);
         let tag = word_at(mem, at + 8);
-        let k = 32 - short(tag / 256);
-        faults = faults + fault((least < next) & good_tag(tag));
+        let k = 80 - short(cap, (tag / 256) as usize);
+        faults = faults + fault((least < next) & good_tag(cap, tag));
         a = a | masked(mem, at + 16, full, k);
         b = b | masked(mem, at + 24, full, k + 8);
         c = c | masked(mem, at + 32, full, k + 16);
         d = d | masked(mem, at + 40, full, k + 24);
+        e = e | joined(mem, at + 48, cap - 32, full, k + 32);
         least = next;
-        at += 48;
+        at += 16 + cap;
         left -= 1;
     }
     (faults == 0)
-        & ((a == 0) & (b == 0) & (c == 0) & (d == 0))
+        & ((a == 0) & (b == 0) & (c == 0) & (d == 0) & (e == 0))
         & (least <= Position::LIMIT)
         & zeros_at(mem, at, mem.len() - at)
 }
 
 // The same, with the ruler that the slots are tested by.
-fn good_slots(mem: &[u8], count: u64, low: u64) -> bool
-    requires { ⌜ (24 + count * 48 ≤ length (now mem)) × (count ≤ 128) × (low ≤ limit) ⌝ }
-    ensures { λ r. ⌜ r ≡ goodSlots small count low (drop 24 (now (mem .entry))) ⌝ }
+fn good_slots(mem: &[u8], cap: usize, count: u64, low: u64) -> bool
+    requires { ⌜ (24 + count * slotSize cap ≤ length (now mem)) × (low ≤ limit) × (32 ≤ cap) × (cap ≤ 80) × (cap % 16 ≡ 0) ⌝ }
+    ensures { λ r. ⌜ r ≡ goodSlots cap count low (drop 24 (now (mem .entry))) ⌝ }
 {
-    let mut full = [255u8; 64];
-    put_zeros(&mut full, 0, 32);
-    slots_good(mem, count, low, &full)
+    let mut full = [255u8; 160];
+    put_zeros(&mut full, 0, 80);
+    slots_good(mem, cap, count, low, &full)
 }
 
-// Whether a lent memory is good, tested in full.
+// Whether a lent memory is good in the shape that it names, tested in full.
 pub fn is_good(mem: &[u8]) -> bool
-    ensures { λ r. ⌜ r ≡ goodMemory small (now (mem .entry)) ⌝ }
+    ensures { λ r. ⌜ r ≡ goodMemory (shapeOf (now (mem .entry))) (now (mem .entry)) ⌝ }
 {
-    if mem.len() != 6168 {
+    if mem.len() != Unit::SIZE {
         return false;
     }
-    if !good_header(mem) {
+    let sh = shape_of(mem);
+    if !good_header(mem, sh) {
         return false;
     }
-    good_slots(mem, number_at(mem, 16, 2), number_at(mem, 8, 8))
+    good_slots(mem, sh.cap, number_at(mem, 16, 2), number_at(mem, 8, 8))
 }

@@ -1,30 +1,32 @@
 // The slots of a good memory, by position.
 ghost use mathlib.Core.Path.{_≡_};
 ghost use mathlib.Core.Bool.{true};
-ghost use lib.ListN.{drop};
-ghost use Rattle.unit.specs.Shape.{small};
+ghost use Prim.Native.Nat.{_+_, _*_, _≤_};
+ghost use lib.ListN.{length, drop};
+ghost use Rattle.unit.specs.Shape.{slotSize};
 ghost use Rattle.unit.specs.State.{before, lookup};
-ghost use Rattle.unit.specs.Memory.{slotsAt, decode, placeOf, countOf, good as goodMemory};
+ghost use Rattle.unit.specs.Memory.{slotsAt, decode, placeOf, floorOf, goodSlots, good as goodMemory};
 use crate::field::number_at;
+use crate::shape::Shape;
 use crate::word::word_at;
 
 // How many of the `count` slots stand before position `p`. The last slot first, for a page is mostly written or read at the edge. The slots rise, so that
 // the half in which its place is not can be passed over.
-pub(crate) fn place(mem: &[u8], count: u64, p: u64) -> u64
-    requires { ⌜ (goodMemory small (now mem) ≡ true) × (count ≡ countOf (now mem)) ⌝ }
-    ensures { λ r. ⌜ r ≡ before p (slotsAt small count (drop 24 (now (mem .entry)))) ⌝ }
+pub(crate) fn place(mem: &[u8], cap: usize, count: u64, p: u64) -> u64
+    requires { ⌜ (24 + count * slotSize cap ≤ length (now mem)) × (goodSlots cap count (floorOf (now mem)) (drop 24 (now mem)) ≡ true) ⌝ }
+    ensures { λ r. ⌜ r ≡ before p (slotsAt cap count (drop 24 (now (mem .entry)))) ⌝ }
 {
     if count == 0 {
         return 0;
     }
-    if word_at(mem, 24 + 48 * ((count - 1) as usize)) < p {
+    if word_at(mem, 24 + ((count - 1) as usize) * (16 + cap)) < p {
         return count;
     }
     let mut low: u64 = 0;
     let mut size = count;
     while 1 < size {
         let half = size / 2;
-        if word_at(mem, 24 + 48 * ((low + half - 1) as usize)) < p {
+        if word_at(mem, 24 + ((low + half - 1) as usize) * (16 + cap)) < p {
             low = low + half;
         }
         size = size - half;
@@ -38,13 +40,13 @@ pub(crate) struct Found {
     pub kind: u8,
 }
 
-pub(crate) fn find(mem: &[u8], p: u64) -> Found
-    requires { ⌜ goodMemory small (now mem) ≡ true ⌝ }
-    ensures { λ r. ⌜ (r .at ≡ placeOf small (now (mem .entry)) p) × (r .kind ≡ lookup p (decode small (now (mem .entry)) .slots) .kind) ⌝ }
+pub(crate) fn find(mem: &[u8], sh: Shape, p: u64) -> Found
+    requires { ⌜ (goodMemory sh (now mem) ≡ true) × (sh .cap ≤ 255) ⌝ }
+    ensures { λ r. ⌜ (r .at ≡ placeOf sh (now (mem .entry)) p) × (r .kind ≡ lookup p (decode sh (now (mem .entry)) .slots) .kind) ⌝ }
 {
     let count = number_at(mem, 16, 2);
-    let before = place(mem, count, p);
-    let at = 24 + 48 * (before as usize);
+    let before = place(mem, sh.cap, count, p);
+    let at = 24 + (before as usize) * (16 + sh.cap);
     if before < count {
         if word_at(mem, at) == p {
             return Found {

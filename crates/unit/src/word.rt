@@ -6,7 +6,7 @@ ghost use Rattle.num.specs.Bytes.{le};
 use num::bytes::wide;
 
 // The number in the two bytes at `at`.
-fn pair_at(bytes: &[u8], at: usize) -> u64
+pub(crate) fn pair_at(bytes: &[u8], at: usize) -> u64
     requires { ⌜ at + 2 ≤ length (now bytes) ⌝ }
     ensures { λ r. ⌜ (r ≡ le 2 (drop at (now (bytes .entry)))) × (r ≤ 65535) ⌝ }
 {

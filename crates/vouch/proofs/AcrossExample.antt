@@ -12,12 +12,13 @@ use Rattle.layout.specs.Places.{placed, setNumber, setAt, headOf, tailOf, after
 use Rattle.layout.specs.Plan.{without, badDrops, emptied, planned, lastStart, goodChains, reorganiseAnswer, plannedFor, isOpen, settleAnswer, settled, settledFirst, startedAt}
 use Rattle.layout.specs.Holder.{offerAnswer, offeredTo, fetchedFrom}
 use Rattle.layout.specs.Successor.{sublist, keepsSets, keepsSpans, lawful}
+use Rattle.unit.specs.Shape.{shapeFor}
 use Rattle.unit.specs.State.{lookup, insert, lastEnd, edge}
 use Rattle.unit.specs.Unit.{writeSays, written, writeUnit, readSays, readShows, sealSays, sealTells, sealedAt, sealUnit}
 use Rattle.sequencer.specs.Rules.{number, position, told, after as sequencer-after}
 use Rattle.client.specs.declared.Ask.the-variants as ask
 use Rattle.client.specs.declared.Reply.the-variants.{Shown}
-use Rattle.client.specs.Message.{noPage}
+use Rattle.client.specs.Message.{dataLimit, noPage}
 use Rattle.client.specs.declared.Work.the-variants.{Read}
 use Rattle.client.specs.Client.{idle, inStage, atPosition, holding, planning, jobOf, reorganiseOf, noChange}
 use Rattle.client.specs.Turn.{outcomeOf, over, ends, numbered, sends}
@@ -65,11 +66,11 @@ abbrev asks : ℕ → ℕ → ℕ → Letter
 asks n u e = record { stamp = record { client = 2; life = 1; number = record { 0 = n } }; body = Asks (ask.Read u (record { 0 = e }) (record { 0 = 0 })); page = noPage; layout = blank }
 
 abbrev answers : ℕ → Letter
-answers n = record { stamp = record { client = 2; life = 1; number = record { 0 = n } }; body = Answers Shown; page = record { kind = 1; len = 1; bytes = 7 ∷ replicate 31 0 }; layout = blank }
+answers n = record { stamp = record { client = 2; life = 1; number = record { 0 = n } }; body = Answers Shown; page = record { kind = 1; len = 1; bytes = 7 ∷ replicate 79 0 }; layout = blank }
 
 -- by the rules, computed; the first read's end is `read-ends` of RunExample
 computed : Reaches l asked-first deliver reading deliver 0 1 × ReadEnds l reading-again deliver 0 2 (shows (bytes (7 ∷ []))) × Reaches l asked-again deliver reading-again deliver 0 2 × InForce l asked-again 2
-unfolding rising goodSet goodSets goodSpans firstAtZero used good _in?_ inSets usedFrom unitsOf padded layOf valueOf zeros tidyChain tidyChains blankRanges tidy goodValue placed setNumber setAt headOf tailOf after above placeAnswer unitsAt without badDrops emptied planned lastStart goodChains reorganiseAnswer plannedFor isOpen settleAnswer settled settledFirst startedAt offerAnswer offeredTo fetchedFrom sublist keepsSets keepsSpans lawful lookup insert lastEnd edge writeSays written writeUnit readSays readShows sealSays sealTells sealedAt sealUnit number position told sequencer-after idle inStage atPosition holding planning outcomeOf over ends numbered sends headFor tailFor afterFor unitAbove planFor startFor reads onRead draws writes writesAt onToken writesOn onWritten dataPage beginAnswer withJob beginTurn goesOn holds onFetched answered awaited takes seals offers allSealed sealsOn reorganises larger client-sealed-at onSealed starts onOffered onStarted letters-without turned beginNumber begins served taken delivered delivers step kindOf bytesOf pageOf shown edged asking fetching offeringTo serve freshUnits freshWorld world
+unfolding rising goodSet goodSets goodSpans firstAtZero used good _in?_ inSets usedFrom unitsOf padded layOf valueOf zeros tidyChain tidyChains blankRanges tidy goodValue placed setNumber setAt headOf tailOf after above placeAnswer unitsAt without badDrops emptied planned lastStart goodChains reorganiseAnswer plannedFor isOpen settleAnswer settled settledFirst startedAt offerAnswer offeredTo fetchedFrom sublist keepsSets keepsSpans lawful lookup insert lastEnd edge writeSays written writeUnit readSays readShows sealSays sealTells sealedAt sealUnit number position told sequencer-after idle inStage atPosition holding planning outcomeOf over ends numbered sends dataLimit shapeFor headFor tailFor afterFor unitAbove planFor startFor reads onRead draws writes writesAt onToken writesOn onWritten dataPage beginAnswer withJob beginTurn goesOn holds onFetched answered awaited takes seals offers allSealed sealsOn reorganises larger client-sealed-at onSealed starts onOffered onStarted letters-without turned beginNumber begins served taken delivered delivers step kindOf bytesOf pageOf shown edged asking fetching offeringTo serve freshUnits freshWorld world
 computed =
     let taken-first : letterAt (world l reading) 0 ≡ answers 2 = refl in
     let given-first : answerTo (asks 2 2 1 .stamp) (serve (world l asked-first) (ask.Read 2 (record { 0 = 1 }) (record { 0 = 0 })) noPage blank .response) ≡ answers 2 = refl in

@@ -2,14 +2,14 @@
 -- Rests on Turning.
 use mathlib.Core.Path.{_≡_, refl, sym, ap, subst}
 use mathlib.Core.Bool.{Bool, true, false, not, cond}
-use mathlib.Core.List.{List, [], _∷_}
+use mathlib.Core.List.{List, [], _∷_, _++_}
 use Prim.Native.Nat.{ℕ, zero, suc, _≤_}
 use native.Mathlib.Omega.{arith}
 use lib.Dec.{eqb, leb}
 use lib.ListN.{length, take}
 use borrow.Author.Tests.{eqb-true, leb-false, le-leb, not-false}
 use Rattle.num.specs.Limits.{limit}
-use Rattle.num.specs.Checks.{Check, lowest}
+use Rattle.num.specs.Checks.{lowest, _if_}
 use Rattle.num.proofs.Tests.{cond-zero}
 use Rattle.layout.specs.declared.Layout.{Layout}
 use Rattle.layout.specs.Value.{padded}
@@ -18,16 +18,16 @@ use Rattle.client.specs.declared.Work.{Work}
 use Rattle.client.specs.declared.Work.the-variants as work
 use Rattle.client.specs.declared.state.Job.{Job}
 use Rattle.client.specs.declared.Client.{Client}
-use Rattle.client.specs.Message.{plain}
-use Rattle.client.specs.Client.{busy, lastNumber}
+use Rattle.client.specs.Message.{pageLimit, plain}
 use Rattle.client.specs.Turn.{rests, sends}
 use Rattle.client.specs.Job.{past, tooLong, jobChecks, positionFor, pageFor, dataPage}
-use Rattle.client.specs.Begin.{beginAnswer, withJob, beginTurn}
+use Rattle.client.specs.Begin.{readyChecks, beginAnswer, withJob, beginTurn}
 use Rattle.rule.specs.declared.Step.the-variants.{Begin}
 use Rattle.rule.specs.World.{World, isClient, clientAt, letterLimit}
 use Rattle.rule.specs.Serve.{kindOf, bytesOf}
 use Rattle.rule.specs.Steps.{refused, turned, beginNumber, begins, step}
 use Rattle.rule.proofs.Lists.{client-range}
+use Rattle.rule.proofs.Tidy.{begin-fine}
 use Rattle.history.specs.Words.Page.{bytes}
 use Rattle.history.specs.History.{Note, History, _⊑_, Noted, held}
 use Rattle.history.specs.History.Note.{append, fillAt, trimAt, pruneTo}
@@ -62,14 +62,14 @@ take-padded (suc n) zero xs fits long = absurd (omega arith)
 take-padded (suc n) (suc m) [] fits long = absurd (omega arith)
 take-padded (suc n) (suc m) (x ∷ xs) fits long = ap (λ ys. x ∷ ys) (take-padded n m xs (omega arith) (omega arith))
 
-pub data-bytes : (n : ℕ) (xs : List ℕ) → n ≤ 32 → n ≤ length xs → bytesOf (dataPage n xs) ≡ take n xs
+pub data-bytes : (n : ℕ) (xs : List ℕ) → n ≤ pageLimit → n ≤ length xs → bytesOf (dataPage n xs) ≡ take n xs
 unfolding dataPage bytesOf
-data-bytes n xs fits long = rw (le-leb n 32 fits) (take-padded n 32 xs fits long)
+data-bytes n xs fits long = rw (le-leb n pageLimit fits) (take-padded n pageLimit xs fits long)
 
 -- it is no junk
 data-carried : (n : ℕ) (xs : List ℕ) → carried (dataPage n xs) ≡ bytes (bytesOf (dataPage n xs))
 unfolding dataPage kindOf
-data-carried n xs = go (leb n 32)
+data-carried n xs = go (leb n pageLimit)
   where
     go : (b : Bool) → pageOf (cond b 1 0) (bytesOf (dataPage n xs)) ≡ bytes (bytesOf (dataPage n xs))
     go true = refl
@@ -143,9 +143,9 @@ begun l ms {h} j work.Reorganise good is low = record { now = h; part = here; go
 
 -- ---- the begin
 
-begin-turn : {h : History} (c : Client) (j : Job) → WorkOk h (j .work) (positionFor (j .work)) (pageFor (j .work) (j .len) (j .bytes)) → TurnOk h c (beginTurn c j)
+begin-turn : {h : History} (c : Client) (j : Job) (shape : ℕ) → WorkOk h (j .work) (positionFor (j .work)) (pageFor (j .work) (j .len) (j .bytes)) → TurnOk h c (beginTurn c j shape)
 unfolding beginTurn withJob
-begin-turn {h} c j works = go (eqb (beginAnswer c j) 0)
+begin-turn {h} c j shape works = go (eqb (beginAnswer c j shape) 0)
   where
     go : (b : Bool) → TurnOk h c (cond b (sends (withJob c j) (plain ask.Fetch)) (rests c))
     go true = sends-ok (withJob c j) (plain ask.Fetch) refl refl refl works waits-fetch fetch-ok
@@ -159,15 +159,9 @@ record Ready (w : World) (c : ℕ) (j : Job) : Type 0 where
 ready : (w : World) (c : ℕ) (j : Job) → beginNumber w c j ≡ 0 → Ready w c j
 unfolding beginNumber
 ready w c j e =
-    let a = cond-zero (not (isClient c)) 17 (cond (busy (clientAt w c .stage)) 18 (cond (leb lastNumber (clientAt w c .used .0)) 19 (lowest (16-check ∷ jobChecks j)))) (omega arith) e in
-    let b = cond-zero (busy (clientAt w c .stage)) 18 (cond (leb lastNumber (clientAt w c .used .0)) 19 (lowest (16-check ∷ jobChecks j))) (omega arith) (a .1) in
-    let d = cond-zero (leb lastNumber (clientAt w c .used .0)) 19 (lowest (16-check ∷ jobChecks j)) (omega arith) (b .1) in
-    let f = cond-zero (leb letterLimit (length (w .letters))) 16 (lowest (jobChecks j)) (omega arith) (d .1) in
-    let g = cond-zero (past (j .work)) 2 (cond (tooLong (j .work) (j .len)) 3 0) (omega arith) (f .1) in
-    record { is-client = not-false (isClient c) (a .0); near = g .0 }
-  where
-    16-check : Check
-    16-check = record { applies = leb letterLimit (length (w .letters)); number = 16 }
+    let called = cond-zero (not (isClient c)) 17 (lowest (readyChecks (clientAt w c) ++ (16 if leb letterLimit (length (w .letters)) ∷ jobChecks j (w .held .shape)))) (omega arith) e in
+    let asked = cond-zero (past (j .work)) 2 (cond (tooLong (j .work) (j .len) (w .held .shape)) 3 0) (omega arith) (begin-fine w c j e .1) in
+    record { is-client = not-false (isClient c) (called .0); near = asked .0 }
 
 or-then : {A B C : Type 0} → Or A B → (B → C) → Or A C
 or-then (either a) f = either a
@@ -187,17 +181,17 @@ module _ (l : Layout) (ms : Moves) (c : ℕ) (j : Job) {h : History} (good : Goo
         within = all-of;
         client = c;
         begins = refl;
-        not-refused = ap (λ (b : Bool). cond b (turned w (w .letters) c (beginTurn (clientAt w c) j)) (refused w (beginNumber w c j)) .answer) e;
+        not-refused = ap (λ (b : Bool). cond b (turned w (w .letters) c (beginTurn (clientAt w c) j (w .held .shape))) (refused w (beginNumber w c j)) .answer) e;
         wants = wants;
       }
 
-  fine : eqb (beginNumber (world l ms) c j) 0 ≡ true → Next l ms m h (world l ms) (turned (world l ms) (world l ms .letters) c (beginTurn (clientAt (world l ms) c) j))
+  fine : eqb (beginNumber (world l ms) c j) 0 ≡ true → Next l ms m h (world l ms) (turned (world l ms) (world l ms .letters) c (beginTurn (clientAt (world l ms) c) j (world l ms .held .shape)))
   fine e =
       let w = world l ms in
       let ok = ready w c j (eqb-true (beginNumber w c j) 0 e) in
       let range = client-range c (ok .is-client) in
       let b = begun l ms j (j .work) good refl (ok .near) in
-      let next = turned-ok l ms m (b .good) c (range .0) (range .1) (ok .is-client) (w .letters) (b .good .letters) (beginTurn (clientAt w c) j) (begin-turn (clientAt w c) j (b .works)) in
+      let next = turned-ok l ms m (b .good) c (range .0) (range .1) (ok .is-client) (w .letters) (b .good .letters) (beginTurn (clientAt w c) j (w .held .shape)) (begin-turn (clientAt w c) j (w .held .shape) (b .works)) in
       record {
         now = next .now;
         part = part-trans (b .part) (next .part);
@@ -217,6 +211,6 @@ module _ (l : Layout) (ms : Moves) (c : ℕ) (j : Job) {h : History} (good : Goo
       w : World
       w = world l ms
 
-      go : (b : Bool) → eqb (beginNumber w c j) 0 ≡ b → Next l ms m h w (cond b (turned w (w .letters) c (beginTurn (clientAt w c) j)) (refused w (beginNumber w c j)))
+      go : (b : Bool) → eqb (beginNumber w c j) 0 ≡ b → Next l ms m h w (cond b (turned w (w .letters) c (beginTurn (clientAt w c) j (w .held .shape))) (refused w (beginNumber w c j)))
       go true e = fine e
       go false e = refused-ok l ms m good (beginNumber w c j)

@@ -38,12 +38,12 @@ pub record Ready (w : World) (c : ℕ) : Type 0 where
   pub is-idle : clientAt w c .stage ≡ Idle
   pub number-left : clientAt w c .used .0 < lastNumber
 
--- what is asked is fit to be begun
-pub record Fit (j : Job) : Type 0 where
+-- what is asked is fit to be begun in a yard of a shape
+pub record Fit (j : Job) (shape : ℕ) : Type 0 where
   pub below : past (j .work) ≡ false
-  pub short : tooLong (j .work) (j .len) ≡ false
+  pub short : tooLong (j .work) (j .len) shape ≡ false
 
-module _ (w : World) (c : ℕ) (ready : Ready w c) (j : Job) (fit : Fit j) where
+module _ (w : World) (c : ℕ) (ready : Ready w c) (j : Job) (fit : Fit j (w .held .shape)) where
   abbrev x : Client
   x = clientAt w c
 
@@ -61,23 +61,23 @@ module _ (w : World) (c : ℕ) (ready : Ready w c) (j : Job) (fit : Fit j) where
       ∙ (pass _ _ (leb lastNumber (x .used .0)) left
       ∙ (pass _ _ (leb 32 (length (w .letters))) (lt-leb 32 (length (w .letters)) (omega (arith, ready .few)))
       ∙ (pass _ _ (past (j .work)) (fit .below)
-      ∙ pass _ _ (tooLong (j .work) (j .len)) (fit .short)))))
+      ∙ pass _ _ (tooLong (j .work) (j .len) (w .held .shape)) (fit .short)))))
 
-  answer-none : beginAnswer x j ≡ 0
+  answer-none : beginAnswer x j (w .held .shape) ≡ 0
   unfolding beginAnswer
   answer-none =
       pass _ _ (busy (x .stage)) not-busy
       ∙ (pass _ _ (leb lastNumber (x .used .0)) left
       ∙ (pass _ _ (past (j .work)) (fit .below)
-      ∙ pass _ _ (tooLong (j .work) (j .len)) (fit .short)))
+      ∙ pass _ _ (tooLong (j .work) (j .len) (w .held .shape)) (fit .short)))
 
   -- the client with its operation
   abbrev pub started : Client
   started = withJob x j
 
-  turn-is : beginTurn x j ≡ sent started (plain Fetch)
+  turn-is : beginTurn x j (w .held .shape) ≡ sent started (plain Fetch)
   unfolding beginTurn sends withJob
-  turn-is = hold _ _ (eqb (beginAnswer x j) 0) (eq-eqb (beginAnswer x j) 0 answer-none) ∙ pass _ _ (leb lastNumber (x .used .0)) left
+  turn-is = hold _ _ (eqb (beginAnswer x j (w .held .shape)) 0) (eq-eqb (beginAnswer x j (w .held .shape)) 0 answer-none) ∙ pass _ _ (leb lastNumber (x .used .0)) left
 
   begins-so : result w (begin c j) ≡ turned w (w .letters) c (sent started (plain Fetch))
   unfolding step begins

@@ -9,10 +9,10 @@ use Rattle.layout.specs.declared.Layout.{Layout}
 use Rattle.layout.specs.Value.{layOf, goodValue}
 use Rattle.layout.specs.Places.{setAt, headOf}
 use Rattle.layout.proofs.Values.{value-of-good}
-use Rattle.unit.specs.Shape.{small}
+use Rattle.unit.specs.declared.shape.Shape.{Shape}
 use Rattle.unit.specs.State.{State}
 use Rattle.unit.proofs.Shown.{shown, shown-limit}
-use Rattle.rule.specs.World.{World, unitAt}
+use Rattle.rule.specs.World.{World, shapeUnder, unitAt}
 use Rattle.rule.proofs.Lists.{client-range}
 use Rattle.history.specs.Words.{UnitNo, Pos, Page}
 use Rattle.history.specs.Maps.{Map, Serves}
@@ -38,12 +38,12 @@ use Rattle.vouch.proofs.Again.{again}
 use Rattle.vouch.proofs.Soundness.{sound-of, stopped-long}
 
 -- a unit that a page is marked at has it below 2^40
-marked-below : {h : History} {u : UnitNo} {M : State} {p : Pos} {X : Page} {e : ℕ} → UnitIs h u M → MarkedBy h u p (page X) e → p < limit
-marked-below {h} {u} {M} {p} is mark =
-    shown-limit small M p (is .is-valid) (λ z. not-marked (subst (λ r. Answers h u p r) (empty-answers (shown M p) z) (is .shown-is p)) _ _ (mark .marked))
+marked-below : {sh : Shape} {h : History} {u : UnitNo} {M : State} {p : Pos} {X : Page} {e : ℕ} → UnitIs sh h u M → MarkedBy h u p (page X) e → p < limit
+marked-below {sh} {h} {u} {M} {p} is mark =
+    shown-limit sh M p (is .is-valid) (λ z. not-marked (subst (λ r. Answers h u p r) (empty-answers (shown M p) z) (is .shown-is p)) _ _ (mark .marked))
 
 settled-below : {h : History} (w : World) {L : Map} {p : Pos} {X : Page} → Run h → held h ≡ mapOf (layOf (w .held)) → goodValue (w .held) ≡ true →
-    ((u : UnitNo) → 1 ≤ u → u ≤ 8 → UnitIs h u (unitAt w u)) → Settled h L p (page X) → p < limit
+    ((u : UnitNo) → 1 ≤ u → u ≤ 8 → UnitIs (shapeUnder (w .held)) h u (unitAt w u)) → Settled h L p (page X) → p < limit
 settled-below {h} w {L} {p} {X} run holds good units settled =
     let lay-good = value-of-good (w .held) good .0 in
     let u = headOf (setAt (layOf (w .held)) p) in

@@ -12,7 +12,7 @@ use Rattle.unit.specs.State.{State}
 use Rattle.unit.specs.Unit.{freshUnit}
 use Rattle.client.specs.declared.Client.{Client}
 use Rattle.client.specs.Client.{idle, fresh as freshClient}
-use Rattle.rule.specs.World.{clientAt, unitAt}
+use Rattle.rule.specs.World.{shapeUnder, clientAt, unitAt}
 use Rattle.rule.specs.Fresh.{freshUnits, freshWorld}
 use Rattle.history.specs.History.{Note, History, _⊑_, Noted, held}
 use Rattle.history.specs.History.History.{fresh}
@@ -63,11 +63,11 @@ fresh-good l good first = record {
   letters = all-none;
 }
   where
-    unit : (u : ℕ) → 1 ≤ u → u ≤ 8 → UnitIs (fresh (mapOf (layOf l))) u (unitAt (freshWorld l) u)
+    unit : (u : ℕ) → 1 ≤ u → u ≤ 8 → UnitIs (shapeUnder l) (fresh (mapOf (layOf l))) u (unitAt (freshWorld l) u)
     unit u low high =
         let at : 1 + (u - 1) ≡ u = omega arith in
         let same : unitAt (freshWorld l) u ≡ freshUnit u = subst (λ j. getD (freshUnits 1 8) (u - 1) (freshUnit j) ≡ freshUnit j) at (fresh-unit 8 1 (u - 1)) in
-        subst (λ (M : State). UnitIs (fresh (mapOf (layOf l))) u M) (sym same) (fresh-is (mapOf (layOf l)) u low high)
+        subst (λ (M : State). UnitIs (shapeUnder l) (fresh (mapOf (layOf l))) u M) (sym same) (fresh-is (shapeUnder l) (mapOf (layOf l)) u low high)
 
     stage : (c : ℕ) → 1 ≤ c → c ≤ 4 → StageOk (fresh (mapOf (layOf l))) (clientAt (freshWorld l) c) (clientAt (freshWorld l) c .stage)
     stage c low high = subst (λ (d : Client). StageOk (fresh (mapOf (layOf l))) d (d .stage)) (sym (fresh-client 4 (c - 1))) tt

@@ -10,6 +10,7 @@ use Rattle.num.specs.declared.Epoch.{Epoch as EpochValue}
 use Rattle.num.specs.declared.Position.{Position}
 use Rattle.layout.specs.declared.Layout.{Layout}
 use Rattle.layout.specs.Value.{goodValue}
+use Rattle.unit.proofs.Shapes.{sized}
 use Rattle.client.specs.declared.Ask.{Ask}
 use Rattle.client.specs.declared.Ask.the-variants as ask
 use Rattle.client.specs.declared.Page.{Page as PageValue}
@@ -196,7 +197,7 @@ module _ (l : Layout) (good : goodValue l ≡ true) (first : l .epoch .0 ≡ 1) 
         let fine = subst (λ (s : Step). step w s (m₁ .job) .answer ≡ 0) (d .is-delivery) (d .not-refused) in
         let range = unit-range u (unit-runs (isUnit u) (not (getD (w .stopped) (u - 1) true)) (unbrought-not w (d .place) (d .keep) (d .keepAnswer) (m₁ .job) asked-unit there-is fine)) in
         let g = come l good first ms₁ .good in
-        read-does (g .machines .units u (range .0) (range .1)) (looks .laid) (laid-good (runs ms₁) (looks .laid) .set-within (reaches .position .0) u (looks .serves)) (looks .epoch-is) (reaches .position .0)
+        read-does (sized (w .held .shape) .page) (g .machines .units u (range .0) (range .1)) (looks .laid) (laid-good (runs ms₁) (looks .laid) .set-within (reaches .position .0) u (looks .serves)) (looks .epoch-is) (reaches .position .0)
 
     -- and the client took that answer
     told-it : {r : Answer} → ReadEnds l ms m p e r → Tells resp r

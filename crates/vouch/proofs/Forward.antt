@@ -27,7 +27,7 @@ use Rattle.layout.proofs.Settling.{plan-started, reorganise-installs}
 use Rattle.layout.proofs.Holding.{Installs, fine-offer}
 use Rattle.layout.proofs.Holding.{installed as offer-installed}
 use Rattle.layout.proofs.Sets.{rises}
-use Rattle.unit.specs.Shape.{small}
+use Rattle.unit.specs.declared.shape.Shape.{Shape}
 use Rattle.unit.specs.State.{State, edge}
 use Rattle.unit.specs.Memory.{valid}
 use Rattle.unit.specs.Unit.{freshUnit, sealSays, sealTells, sealUnit}
@@ -39,7 +39,7 @@ use Rattle.sequencer.specs.Rules.{number, told, after}
 use Rattle.sequencer.specs.Rules.{position as positionAt}
 use Rattle.client.specs.declared.Reply.the-variants.{Edge}
 use Rattle.client.specs.Client.{noChange}
-use Rattle.rule.specs.World.{World, running, unitAt}
+use Rattle.rule.specs.World.{World, shapeUnder, running, unitAt}
 use Rattle.rule.specs.Serve.{edged}
 use Rattle.vouch.specs.LastSentence.{stoppedUnits, newLayout, Conditions}
 use Rattle.vouch.proofs.Dropping.{drops-good, none-emptied, left-work}
@@ -51,7 +51,7 @@ pub record Sound (w : World) : Type 0 where
   pub four-clients : length (w .clients) ≡ 4
   pub eight-stopped : length (w .stopped) ≡ 8
   pub eight-units : length (w .units) ≡ 8
-  pub unit-valid : (u : ℕ) → 1 ≤ u → u ≤ 8 → valid small (unitAt w u) ≡ true
+  pub unit-valid : (u : ℕ) → 1 ≤ u → u ≤ 8 → valid (shapeUnder (w .held)) (unitAt w u) ≡ true
   pub unit-low : (u : ℕ) → 1 ≤ u → u ≤ 8 → unitAt w u .sealed ≤ w .held .epoch .0
   pub sequencer-low : w .sequencer .epoch .0 ≤ w .held .epoch .0
 
@@ -138,15 +138,15 @@ walk-all low (x ∷ xs) r =
 -- ---- units under seals
 
 -- new: old, but perhaps sealed at e or below it
-pub record Kept (e : ℕ) (old new : State) : Type 0 where
-  pub is-valid : valid small new ≡ true
+pub record Kept (sh : Shape) (e : ℕ) (old new : State) : Type 0 where
+  pub is-valid : valid sh new ≡ true
   pub low : new .sealed ≤ e
   pub floor-same : new .floor ≡ old .floor
   pub slots-same : new .slots ≡ old .slots
 
 pub record UnitsOn (w : World) (us : List State) : Type 0 where
   pub eight : length us ≡ 8
-  pub kept : (u : ℕ) → 1 ≤ u → u ≤ 8 → Kept (w .held .epoch .0) (unitAt w u) (getD us (u - 1) (freshUnit u))
+  pub kept : (u : ℕ) → 1 ≤ u → u ≤ 8 → Kept (shapeUnder (w .held)) (w .held .epoch .0) (unitAt w u) (getD us (u - 1) (freshUnit u))
 
 pub units-at-first : (w : World) → Sound w → UnitsOn w (w .units)
 units-at-first w sound = record {
@@ -162,9 +162,9 @@ pub seal-tells : (M : State) (n : ℕ) → M .sealed ≤ n → edged M n ≡ Edg
 unfolding edged sealTells
 seal-tells M n le = rw (seal-says M n le)
 
-seal-keeps : {e : ℕ} {old M : State} → e ≤ lastEpoch → Kept e old M → Kept e old (sealUnit M e)
-seal-keeps {e} {old} {M} few k =
-    let s = seal-lasts small M e (k .is-valid) few in
+seal-keeps : {sh : Shape} {e : ℕ} {old M : State} → e ≤ lastEpoch → Kept sh e old M → Kept sh e old (sealUnit M e)
+seal-keeps {sh} {e} {old} {M} few k =
+    let s = seal-lasts sh M e (k .is-valid) few in
     record {
       is-valid = s .isValid;
       low = omega (arith, s .done (seal-says M e (k .low)));
@@ -179,12 +179,12 @@ module _ (w : World) (us : List State) (u : ℕ) (few : w .held .epoch .0 ≤ la
   abbrev M : State
   M = sealUnit (getD us (u - 1) (freshUnit u)) e
 
-  one-sealed : (v : ℕ) → 1 ≤ v → v ≤ 8 → Dec (v ≡ u) → Kept e (unitAt w v) (getD (set us (u - 1) M) (v - 1) (freshUnit v))
+  one-sealed : (v : ℕ) → 1 ≤ v → v ≤ 8 → Dec (v ≡ u) → Kept (shapeUnder (w .held)) e (unitAt w v) (getD (set us (u - 1) M) (v - 1) (freshUnit v))
   one-sealed v a b (yes same) =
-      subst (λ (z : ℕ). Kept e (unitAt w z) (getD (set us (u - 1) M) (z - 1) (freshUnit z))) (sym same)
-      (subst (λ (N : State). Kept e (unitAt w u) N) (sym (getD-set-same us (u - 1) M (freshUnit u) (omega (arith, on .eight)))) (seal-keeps few (on .kept u low high)))
+      subst (λ (z : ℕ). Kept (shapeUnder (w .held)) e (unitAt w z) (getD (set us (u - 1) M) (z - 1) (freshUnit z))) (sym same)
+      (subst (λ (N : State). Kept (shapeUnder (w .held)) e (unitAt w u) N) (sym (getD-set-same us (u - 1) M (freshUnit u) (omega (arith, on .eight)))) (seal-keeps few (on .kept u low high)))
   one-sealed v a b (no other) =
-      subst (λ (N : State). Kept e (unitAt w v) N) (sym (getD-set-other us (u - 1) (v - 1) M (freshUnit v) (λ z. other (omega arith)))) (on .kept v a b)
+      subst (λ (N : State). Kept (shapeUnder (w .held)) e (unitAt w v) N) (sym (getD-set-other us (u - 1) (v - 1) M (freshUnit v) (λ z. other (omega arith)))) (on .kept v a b)
 
   pub seal-on : UnitsOn w (set us (u - 1) M)
   seal-on = record { eight = length-set us (u - 1) M ∙ on .eight; kept = λ v a b. one-sealed v a b (ℕ-discrete v u) }

@@ -13,6 +13,7 @@ use Rattle.layout.specs.Places.{placed, setNumber, setAt, headOf, tailOf, after
 use Rattle.layout.specs.Plan.{without, badDrops, emptied, planned, lastStart, goodChains, reorganiseAnswer, plannedFor, isOpen, settleAnswer, settled, settledFirst, startedAt}
 use Rattle.layout.specs.Holder.{offerAnswer, offeredTo, fetchedFrom}
 use Rattle.layout.specs.Successor.{sublist, keepsSets, keepsSpans, lawful}
+use Rattle.unit.specs.Shape.{shapeFor}
 use Rattle.unit.specs.State.{lookup, insert, lastEnd, edge}
 use Rattle.unit.specs.Unit.{writeSays, written, writeUnit, readSays, readShows, sealSays, sealTells, sealedAt, sealUnit}
 use Rattle.sequencer.specs.Rules.{number, position, told, after as sequencer-after}
@@ -20,6 +21,7 @@ use Rattle.client.specs.declared.Work.the-variants.{Append, Read}
 use Rattle.client.specs.declared.Stage.the-variants.{Idle}
 use Rattle.client.specs.declared.state.Job.{Job}
 use Rattle.client.specs.Client.{idle, inStage, atPosition, holding, planning, jobOf, reorganiseOf, noChange}
+use Rattle.client.specs.Message.{dataLimit}
 use Rattle.client.specs.Turn.{outcomeOf, over, ends, numbered, sends}
 use Rattle.client.specs.Way.{headFor, tailFor, afterFor, unitAbove, planFor, startFor}
 use Rattle.client.specs.Append.{draws, writes, writesAt, onToken, writesOn, onWritten}
@@ -76,7 +78,7 @@ record Left : Type 0 where
 
 -- by the rules, computed
 computed : Left × ReadEnds l reading-again deliver 0 2 (shows (bytes (7 ∷ [])))
-unfolding rising goodSet goodSets goodSpans firstAtZero used good _in?_ inSets usedFrom unitsOf padded layOf valueOf zeros tidyChain tidyChains blankRanges tidy goodValue placed setNumber setAt headOf tailOf after above placeAnswer unitsAt without badDrops emptied planned lastStart goodChains reorganiseAnswer plannedFor isOpen settleAnswer settled settledFirst startedAt offerAnswer offeredTo fetchedFrom sublist keepsSets keepsSpans lawful lookup insert lastEnd edge writeSays written writeUnit readSays readShows sealSays sealTells sealedAt sealUnit number position told sequencer-after idle inStage atPosition holding planning outcomeOf over ends numbered sends headFor tailFor afterFor unitAbove planFor startFor reads onRead draws writes writesAt onToken writesOn onWritten dataPage beginAnswer withJob beginTurn giveUp goesOn holds onFetched answered awaited takes seals offers allSealed sealsOn reorganises larger client-sealed-at onSealed starts onOffered onStarted letters-without turned beginNumber begins served taken delivered delivers drops stops givesUp step kindOf bytesOf pageOf shown edged asking fetching offeringTo serve freshUnits freshWorld world stoppedFrom
+unfolding rising goodSet goodSets goodSpans firstAtZero used good _in?_ inSets usedFrom unitsOf padded layOf valueOf zeros tidyChain tidyChains blankRanges tidy goodValue placed setNumber setAt headOf tailOf after above placeAnswer unitsAt without badDrops emptied planned lastStart goodChains reorganiseAnswer plannedFor isOpen settleAnswer settled settledFirst startedAt offerAnswer offeredTo fetchedFrom sublist keepsSets keepsSpans lawful lookup insert lastEnd edge writeSays written writeUnit readSays readShows sealSays sealTells sealedAt sealUnit number position told sequencer-after idle inStage atPosition holding planning outcomeOf over ends numbered sends dataLimit shapeFor headFor tailFor afterFor unitAbove planFor startFor reads onRead draws writes writesAt onToken writesOn onWritten dataPage beginAnswer withJob beginTurn giveUp goesOn holds onFetched answered awaited takes seals offers allSealed sealsOn reorganises larger client-sealed-at onSealed starts onOffered onStarted letters-without turned beginNumber begins served taken delivered delivers drops stops givesUp step kindOf bytesOf pageOf shown edged asking fetching offeringTo serve freshUnits freshWorld world stoppedFrom
 computed = (
   record {
     nobody = refl;

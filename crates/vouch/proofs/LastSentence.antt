@@ -39,7 +39,7 @@ use Rattle.client.specs.Begin.{withJob}
 use Rattle.client.specs.Way.{planFor}
 use Rattle.client.specs.Reorganise.{reorganises, sealsOn}
 use Rattle.client.specs.Take.{goesOn}
-use Rattle.rule.specs.World.{World, running, clientAt, unitAt}
+use Rattle.rule.specs.World.{World, shapeUnder, running, clientAt, unitAt}
 use Rattle.rule.specs.Steps.{Done}
 use Rattle.vouch.specs.LastSentence.{Goes, begin, exchanges, stoppedUnits, dropStopped, newLayout, unitCount, reorganising, Conditions, tailIn, tailSays, tailShows, Answering, ReadsTail, Answerable}
 use Rattle.vouch.specs.LastSentence.Answering.{page, trimmed, unwritten}
@@ -88,7 +88,7 @@ module _ (w : World) (c : ℕ) (sound : Sound w) (may : Conditions w c) where
   abbrev job : Job
   job = reorganiseOf (dropStopped w)
 
-  pub fit : Fit job
+  pub fit : Fit job (w .held .shape)
   fit = record { below = refl; short = refl }
 
   -- ---- the reorganise
@@ -185,7 +185,7 @@ module _ (w : World) (c : ℕ) (sound : Sound w) (may : Conditions w c) where
     pub tail-works : running (w .stopped) t ≡ true
     tail-works = units-work w c sound may t tail-inside
 
-    tail-kept : Kept (w .held .epoch .0) (unitAt w t) (unitAt W t)
+    tail-kept : Kept (shapeUnder (w .held)) (w .held .epoch .0) (unitAt w t) (unitAt W t)
     tail-kept =
         let range = rising-within 0 us t (units-rise (newLayout w .sets)) tail-inside in
         well .units-on .kept t (omega (arith, range .0)) (range .1)

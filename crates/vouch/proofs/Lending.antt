@@ -17,7 +17,7 @@ use Rattle.client.specs.declared.Stage.{Stage}
 use Rattle.client.specs.declared.Stage.the-variants.{Idle, Fetching, Drawing, Writing, Reading, Filling, Looking, Trimming, Pruning, Sealing, Offering, Starting}
 use Rattle.client.specs.Client.{fresh}
 use Rattle.rule.specs.declared.Letter.{Letter}
-use Rattle.rule.specs.World.{unitAt, clientAt}
+use Rattle.rule.specs.World.{shapeUnder, unitAt, clientAt}
 use Rattle.rule.specs.Lent.{Lent, Outcomes, fetched, lentNumber, seen, laid, left, done, steps}
 use Rattle.rule.specs.Fresh.{freshWorld, freshLent, freshNumberOf, freshNumber, makes}
 use Rattle.rule.proofs.Leaving.{Fit, Told, Lendable, Room, all-from, left-room, left-seen, left-number}
@@ -64,22 +64,22 @@ module _ (l : Layout) (good-layout : goodValue l ≡ true) (first : l .epoch .0 
       let c = come l good-layout first ms in
       let t = tidy l ms in
       record {
-        units-fit = all-from Fit freshUnit 8 1 (w .units) (t .eight) (λ i lt. unit i lt);
+        units-fit = all-from (Fit (shapeUnder (w .held))) freshUnit 8 1 (w .units) (t .eight) (λ i lt. unit i lt);
         eight = t .eight;
         held-good = c .good .machines .held-good;
         clients-fit = all-from Told (λ k. fresh) 4 1 (w .clients) (c .good .clients-long) (λ i lt. client i lt);
         few = t .few;
       }
     where
-      unit : (i : ℕ) → i < 8 → Fit (1 + i) (getD (world l ms .units) i (freshUnit (1 + i)))
+      unit : (i : ℕ) → i < 8 → Fit (shapeUnder (world l ms .held)) (1 + i) (getD (world l ms .units) i (freshUnit (1 + i)))
       unit i lt =
           let at : 1 + i - 1 ≡ i = omega arith in
-          let fit : Fit (1 + i) (unitAt (world l ms) (1 + i))
+          let fit : Fit (shapeUnder (world l ms .held)) (1 + i) (unitAt (world l ms) (1 + i))
           = record {
             is-valid = come l good-layout first ms .good .machines .units (1 + i) (omega arith) (omega arith) .is-valid;
             number-is = tidy l ms .numbers (1 + i) (omega arith) (omega arith);
           } in
-          subst (λ j. Fit (1 + i) (getD (world l ms .units) j (freshUnit (1 + i)))) at fit
+          subst (λ j. Fit (shapeUnder (world l ms .held)) (1 + i) (getD (world l ms .units) j (freshUnit (1 + i)))) at fit
 
       client : (i : ℕ) → i < 4 → Told (1 + i) (getD (world l ms .clients) i fresh)
       client i lt =

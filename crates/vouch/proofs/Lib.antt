@@ -45,3 +45,6 @@ pub mod Again
 pub mod Soundness
 pub mod Closing
 pub mod LastExample
+-- Over both shapes.
+pub mod Shapes
+pub mod LargeExample

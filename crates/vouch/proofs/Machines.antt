@@ -2,7 +2,7 @@
 -- Rests on Meaning, Lists and on the laws of units and of the holder.
 use mathlib.Core.Path.{_≡_, refl, sym, subst, _∙_}
 use mathlib.Core.Bool.{Bool, true, false, not, cond}
-use Prim.Native.Nat.{_-_, _≤_}
+use Prim.Native.Nat.{ℕ, _-_, _≤_}
 use native.Mathlib.Omega.{arith}
 use lib.Dec.{eqb}
 use lib.ListN.{length, length-set, getD}
@@ -11,7 +11,8 @@ use Rattle.num.specs.declared.Position.{Position}
 use Rattle.layout.specs.declared.Layout.{Layout}
 use Rattle.layout.specs.Value.{layOf, goodValue}
 use Rattle.layout.specs.Holder.{offeredTo}
-use Rattle.unit.specs.Shape.{small}
+use Rattle.unit.specs.Shape.{shapeFor}
+use Rattle.unit.proofs.Shapes.{sized}
 use Rattle.unit.specs.State.{State}
 use Rattle.unit.specs.Unit.{freshUnit, writeSays, writeUnit, trimSays, trimUnit, pruneSays, pruneUnit, sealUnit}
 use Rattle.sequencer.specs.declared.Sequencer.{Sequencer}
@@ -23,7 +24,7 @@ use Rattle.client.specs.declared.Ask.{Ask}
 use Rattle.client.specs.declared.Ask.the-variants.{Fetch, Token, Write, Read, Trim, Prune, Seal, Offer, Start}
 use Rattle.client.specs.declared.Reply.{Reply}
 use Rattle.client.specs.declared.Response.{Response}
-use Rattle.rule.specs.World.{World, unitAt, isUnit}
+use Rattle.rule.specs.World.{World, shapeUnder, unitAt, isUnit}
 use Rattle.rule.specs.Serve.{Served, saying, bare, kindOf, bytesOf, shown, edged, withUnit, withSequencer, withHeld, asking, offeringTo, serve, unserved}
 use Rattle.history.specs.Words.{UnitNo, Pos, Epoch, Page}
 use Rattle.history.specs.Maps.{Map}
@@ -56,14 +57,14 @@ use Rattle.vouch.proofs.Meaning.{AskOk, Means}
 use Rattle.vouch.proofs.Meaning.AskOk.{fetch-ok, token-ok, write-ok, look-ok, trim-ok, prune-ok, seal-ok, offer-ok, start-ok}
 use Rattle.vouch.proofs.Meaning.Means.{means-held, means-token, means-wrote, means-written, means-no-write, means-shown, means-trimmed, means-unwritten, means-no-read, means-cut, means-no-cut, means-pruned, means-no-prune, means-edge, means-no-seal, means-installed, means-no-install, means-start}
 
--- holder, sequencer and units are what the history made of them; stopped units too
+-- holder, sequencer and units are what the history made of them, each unit of the held layout's shape; stopped units too
 pub record Machines (h : History) (w : World) : Type 0 where
   pub run : Run h
   pub held-is : held h ≡ mapOf (layOf (w .held))
   pub held-good : goodValue (w .held) ≡ true
   pub sequencer-low : w .sequencer .epoch .0 ≤ held h .epoch
   pub units-long : length (w .units) ≡ 8
-  pub units : (u : UnitNo) → 1 ≤ u → u ≤ 8 → UnitIs h u (unitAt w u)
+  pub units : (u : UnitNo) → 1 ≤ u → u ≤ 8 → UnitIs (shapeUnder (w .held)) h u (unitAt w u)
 
 -- what came of a request that was served
 pub record ServedOk (h : History) (w : World) (a : Ask) (g : PageValue) (k : Layout) (v : Served) : Type 0 where
@@ -78,15 +79,15 @@ pub record ServedOk (h : History) (w : World) (a : Ask) (g : PageValue) (k : Lay
 
 -- ---- units
 
-with-unit : {h now : History} {w : World} {u : UnitNo} (M : State) → Machines h w → Run now → held now ≡ held h → 1 ≤ u → u ≤ 8 → UnitIs now u M →
-    ((v : UnitNo) → ¬ (v ≡ u) → UnitIs h v (unitAt w v) → UnitIs now v (unitAt w v)) → Machines now (withUnit w u M)
+with-unit : {h now : History} {w : World} {u : UnitNo} (M : State) → Machines h w → Run now → held now ≡ held h → 1 ≤ u → u ≤ 8 → UnitIs (shapeUnder (w .held)) now u M →
+    ((v : UnitNo) → ¬ (v ≡ u) → UnitIs (shapeUnder (w .held)) h v (unitAt w v) → UnitIs (shapeUnder (w .held)) now v (unitAt w v)) → Machines now (withUnit w u M)
 with-unit {h} {now} {w} {u} M m run same low high is others = record {
   run = run;
   held-is = same ∙ m .held-is;
   held-good = m .held-good;
   sequencer-low = subst (λ (L : Map). w .sequencer .epoch .0 ≤ L .epoch) (sym same) (m .sequencer-low);
   units-long = length-set (w .units) (u - 1) M ∙ m .units-long;
-  units = set-all (λ v N. UnitIs now v N) freshUnit (w .units) 8 u M (m .units-long) low high is (λ v from to ne. others v ne (m .units v from to));
+  units = set-all (λ v N. UnitIs (shapeUnder (w .held)) now v N) freshUnit (w .units) 8 u M (m .units-long) low high is (λ v from to ne. others v ne (m .units v from to));
 }
 
 -- only `ask` notes anything
@@ -107,7 +108,7 @@ install-quiet n (noted-before noted) = noted
 
 module _ {h : History} {w : World} (m : Machines h w) {u : UnitNo} (low : 1 ≤ u) (high : u ≤ 8) (g : PageValue) (k : Layout) where
   -- nothing happened, whatever was answered
-  no-event : (a : Ask) (r : Reply) (M : State) → UnitIs h u M → Means h a g k (bare r) → ServedOk h w a g k (record { response = bare r; world = withUnit w u M })
+  no-event : (a : Ask) (r : Reply) (M : State) → UnitIs (shapeUnder (w .held)) h u M → Means h a g k (bare r) → ServedOk h w a g k (record { response = bare r; world = withUnit w u M })
   no-event a r M is means = record {
     now = h;
     part = here;
@@ -117,7 +118,7 @@ module _ {h : History} {w : World} (m : Machines h w) {u : UnitNo} (low : 1 ≤ 
     quiet = λ n noted. noted;
   }
 
-  wrote : (L : Map) (e : EpochValue) (p : Position) → L .epoch ≡ e .0 → Laid h L → (r : Reply) (M : State) → WriteDone h u L (p .0) (carried g) (e .0) M r →
+  wrote : (L : Map) (e : EpochValue) (p : Position) → L .epoch ≡ e .0 → Laid h L → (r : Reply) (M : State) → WriteDone (shapeUnder (w .held)) h u L (p .0) (carried g) (e .0) M r →
       ServedOk h w (Write u e p) g k (record { response = bare r; world = withUnit w u M })
   unfolding held
   wrote L e p at laid r M (did-write may is) = record {
@@ -131,7 +132,7 @@ module _ {h : History} {w : World} (m : Machines h w) {u : UnitNo} (low : 1 ≤ 
   wrote L e p at laid r M (was-written has is) = no-event (Write u e p) r M is (means-written (record { by = L; laid = laid; epoch-is = at; has-it = has }))
   wrote L e p at laid r M (no-write n0 n6 is) = no-event (Write u e p) r M is (means-no-write n6)
 
-  cut : (L : Map) (e : EpochValue) (p : Position) → L .epoch ≡ e .0 → (r : Reply) (M : State) → TrimDone h u L (p .0) M r →
+  cut : (L : Map) (e : EpochValue) (p : Position) → L .epoch ≡ e .0 → (r : Reply) (M : State) → TrimDone (shapeUnder (w .held)) h u L (p .0) M r →
       ServedOk h w (Trim u e p) g k (record { response = bare r; world = withUnit w u M })
   unfolding held
   cut L e p at r M (did-trim may is) = record {
@@ -144,7 +145,7 @@ module _ {h : History} {w : World} (m : Machines h w) {u : UnitNo} (low : 1 ≤ 
   }
   cut L e p at r M (no-trim n0 is) = no-event (Trim u e p) r M is means-no-cut
 
-  pruned : (L : Map) (e : EpochValue) (q : Position) → L .epoch ≡ e .0 → (r : Reply) (M : State) → PruneDone h u L (q .0) M r →
+  pruned : (L : Map) (e : EpochValue) (q : Position) → L .epoch ≡ e .0 → (r : Reply) (M : State) → PruneDone (shapeUnder (w .held)) h u L (q .0) M r →
       ServedOk h w (Prune u e q) g k (record { response = bare r; world = withUnit w u M })
   unfolding held
   pruned L e q at r M (did-prune may is) = record {
@@ -157,9 +158,9 @@ module _ {h : History} {w : World} (m : Machines h w) {u : UnitNo} (low : 1 ≤ 
   }
   pruned L e q at r M (no-prune n0 is) = no-event (Prune u e q) r M is means-no-prune
 
-  was-sealed : (e : EpochValue) (r : Reply) (M : State) → SealDone h u (e .0) M r → ServedOk h w (Seal u e) g k (record { response = bare r; world = withUnit w u M })
+  was-sealed : (e : EpochValue) (r : Reply) (M : State) → SealDone (shapeUnder (w .held)) h u (e .0) M r → ServedOk h w (Seal u e) g k (record { response = bare r; world = withUnit w u M })
   unfolding held
-  was-sealed e r M (did-seal may is answer small) = record {
+  was-sealed e r M (did-seal may is answer few) = record {
     now = h ▹ seal u (e .0);
     part = later here;
     machines = with-unit M m (run-step (m .run) may) refl low high is (λ v ne old. seal-others old ne);
@@ -188,7 +189,7 @@ with-sequencer s low m = record { run = m .run; held-is = m .held-is; held-good 
 offered : {h : History} {w : World} (m : Machines h w) (g : PageValue) (k : Layout) (r : Reply) (l : Layout) → OfferDone h (w .held) k r l →
     ServedOk h w Offer g k (record { response = bare r; world = withHeld w l })
 unfolding held
-offered {h} {w} m g k r l (installed may good) = record {
+offered {h} {w} m g k r l (installed may good same) = record {
   now = h ▹ install (mapOf (layOf k));
   part = later here;
   machines = record {
@@ -197,7 +198,7 @@ offered {h} {w} m g k r l (installed may good) = record {
     held-good = good;
     sequencer-low = omega (arith, m .sequencer-low, held-rises h (install (mapOf (layOf k))) may);
     units-long = m .units-long;
-    units = λ u low high. install-is (m .units u low high);
+    units = λ u low high. subst (λ (s : ℕ). UnitIs (shapeFor s) (h ▹ install (mapOf (layOf k))) u (unitAt w u)) (sym same) (install-is (m .units u low high));
   };
   means = means-installed {k = k} (omega (arith, epoch-of k));
   clients-same = refl;
@@ -244,16 +245,16 @@ serve-ok {w = w} {g = g} {k} m to (token-ok {e = e}) = sequencer-after (Token e)
 serve-ok {h} {w} {g = g} {k} m to (write-ok {u = u} {e} {p} ok) =
     let range = unit-range u (unit-runs (isUnit u) (not (getD (w .stopped) (u - 1) true)) to) in
     let has = laid-good (m .run) (ok .laid) .set-within (p .0) u (ok .serves) in
-    wrote m (range .0) (range .1) g k (ok .by) e p (ok .epoch-is) (ok .laid) (saying (writeSays small (unitAt w u) (e .0) (p .0) (kindOf g) (bytesOf g))) (writeUnit small (unitAt w u) (e .0) (p .0) (kindOf g) (bytesOf g))
+    wrote m (range .0) (range .1) g k (ok .by) e p (ok .epoch-is) (ok .laid) (saying (writeSays (shapeUnder (w .held)) (unitAt w u) (e .0) (p .0) (kindOf g) (bytesOf g))) (writeUnit (shapeUnder (w .held)) (unitAt w u) (e .0) (p .0) (kindOf g) (bytesOf g))
     (write-does (m .run) (m .units u (range .0) (range .1)) (ok .laid) has (ok .epoch-is) (p .0) (kindOf g) (bytesOf g) (ok .above) (ok .asked))
 serve-ok {h} {w} {g = g} {k} m to (look-ok {u = u} {e} {p} ok) =
     let range = unit-range u (unit-runs (isUnit u) (not (getD (w .stopped) (u - 1) true)) to) in
     let has = laid-good (m .run) (ok .laid) .set-within (p .0) u (ok .serves) in
-    looked m (range .0) (range .1) g k (ok .by) e p (ok .epoch-is) (shown (unitAt w u) (e .0) (p .0)) (read-does (m .units u (range .0) (range .1)) (ok .laid) has (ok .epoch-is) (p .0))
+    looked m (range .0) (range .1) g k (ok .by) e p (ok .epoch-is) (shown (unitAt w u) (e .0) (p .0)) (read-does (sized (w .held .shape) .page) (m .units u (range .0) (range .1)) (ok .laid) has (ok .epoch-is) (p .0))
 serve-ok {h} {w} {g = g} {k} m to (trim-ok {u = u} {e} {p} ok) =
     let range = unit-range u (unit-runs (isUnit u) (not (getD (w .stopped) (u - 1) true)) to) in
     let has = laid-good (m .run) (ok .laid) .set-within (p .0) u (ok .serves) in
-    cut m (range .0) (range .1) g k (ok .by) e p (ok .epoch-is) (saying (trimSays small (unitAt w u) (e .0) (p .0))) (trimUnit small (unitAt w u) (e .0) (p .0))
+    cut m (range .0) (range .1) g k (ok .by) e p (ok .epoch-is) (saying (trimSays (shapeUnder (w .held)) (unitAt w u) (e .0) (p .0))) (trimUnit (shapeUnder (w .held)) (unitAt w u) (e .0) (p .0))
     (trim-does (m .units u (range .0) (range .1)) (ok .laid) has (ok .epoch-is) (p .0) (ok .above) (ok .asked))
 serve-ok {h} {w} {g = g} {k} m to (prune-ok {u = u} {e} {p} ok) =
     let range = unit-range u (unit-runs (isUnit u) (not (getD (w .stopped) (u - 1) true)) to) in

@@ -11,7 +11,7 @@ use Rattle.layout.specs.declared.holder.Offered.{Offered}
 use Rattle.layout.specs.Value.{layOf, goodValue}
 use Rattle.layout.specs.Holder.{offerAnswer, offeredTo, fetchedFrom}
 use Rattle.layout.proofs.Values.{value-of-good}
-use Rattle.layout.proofs.Holding.{installed as offered-installed, stays, offer-fine, fetched-good}
+use Rattle.layout.proofs.Holding.{installed as offered-installed, stays, shape-stays, offer-fine, fetched-good}
 use Rattle.client.specs.declared.Reply.{Reply}
 use Rattle.client.specs.declared.Reply.the-variants.{Held, Fine, Refused}
 use Rattle.client.specs.Message.{noPage}
@@ -62,7 +62,7 @@ install-does {h} k l run holds offer fine =
 
 -- what came of an offer: the answer, and the layout held afterwards
 pub data OfferDone (h : History) (k l : Layout) : Reply → Layout → Type 0 where
-  installed : MayInstall h (mapOf (layOf l)) → goodValue l ≡ true → OfferDone h k l Fine l
+  installed : MayInstall h (mapOf (layOf l)) → goodValue l ≡ true → l .shape ≡ k .shape → OfferDone h k l Fine l
   not-installed : {n : ℕ} → ¬ (n ≡ 0) → OfferDone h k l (Refused n) k
 
 pub offer-does : {h : History} (k l : Layout) → Run h → held h ≡ mapOf (layOf k) → OfferOk h l → OfferDone h k l (saying (offeredTo k l .answer)) (offeredTo k l .held)
@@ -72,7 +72,7 @@ offer-does {h} k l run holds offer = go (eqb (offerAnswer k l) 0) refl
     go true e =
         let fine = eqb-true (offerAnswer k l) 0 e in
         subst (λ (o : Offered). OfferDone h k l (saying (o .answer)) (o .held)) (offered-installed k l fine)
-        (installed (install-does k l run holds offer fine) (offer-fine k l fine .good))
+        (installed (install-does k l run holds offer fine) (offer-fine k l fine .good) (ap (λ (o : Offered). o .held .shape) (offered-installed k l fine) ∙ shape-stays k l))
     go false e =
         let refused = eqb-false (offerAnswer k l) 0 e in
         subst (λ (o : Offered). OfferDone h k l (saying (o .answer)) (o .held)) (stays k l (offerAnswer k l) refl refused)

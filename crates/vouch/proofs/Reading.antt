@@ -4,12 +4,13 @@ use mathlib.Core.Path.{_≡_, refl, sym, ap, subst, _∙_}
 use mathlib.Core.Bool.{Bool, true, false, cond}
 use Prim.Native.Nat.{ℕ, _≤_}
 use native.Mathlib.Omega.{arith}
+use native.Mathlib.Nat.{le-trans}
 use borrow.Author.Tests.{ltb-true, ltb-false, le-leb}
 use lib.Dec.{eqb, ltb}
 use lib.ListN.{length}
 use Rattle.layout.specs.Value.{blank}
 use Rattle.layout.proofs.Padding.{padded-front}
-use Rattle.unit.specs.Shape.{small}
+use Rattle.unit.specs.declared.shape.Shape.{Shape}
 use Rattle.unit.specs.State.{Slot, State, lookup}
 use Rattle.unit.specs.Memory.{valid}
 use Rattle.unit.specs.Unit.{readSays, readShows}
@@ -38,14 +39,14 @@ carried-slot : (s : Slot) → length (s .payload) ≤ pageLimit → carried (slo
 unfolding kindOf bytesOf slotPage
 carried-slot s few = rw (le-leb (length (s .payload)) pageLimit few, padded-front pageLimit 0 (s .payload) few)
 
--- what a unit shows as a page is no longer than one
-shown-short : (M : State) (p : ℕ) → valid small M ≡ true → ¬ (shown M p .kind ≡ 0) → ¬ (shown M p .kind ≡ 3) → length (shown M p .payload) ≤ pageLimit
-shown-short M p v some-kind not-gone = go (ltb p (M .floor)) refl
+-- what a unit shows as a page is no longer than its shape's payload
+shown-short : (sh : Shape) (M : State) (p : ℕ) → valid sh M ≡ true → ¬ (shown M p .kind ≡ 0) → ¬ (shown M p .kind ≡ 3) → length (shown M p .payload) ≤ sh .cap
+shown-short sh M p v some-kind not-gone = go (ltb p (M .floor)) refl
   where
-    kept : (s : Slot) → s ≡ lookup p (M .slots) → ¬ (s .kind ≡ 0) → length (s .payload) ≤ pageLimit
-    kept s e k = rw e (held (small .cap) (M .floor) p (M .slots) (is-valid small M v .slots) (rw e at k) .fields .fits)
+    kept : (s : Slot) → s ≡ lookup p (M .slots) → ¬ (s .kind ≡ 0) → length (s .payload) ≤ sh .cap
+    kept s e k = rw e (held (sh .cap) (M .floor) p (M .slots) (is-valid sh M v .slots) (rw e at k) .fields .fits)
 
-    go : (b : Bool) → ltb p (M .floor) ≡ b → length (shown M p .payload) ≤ pageLimit
+    go : (b : Bool) → ltb p (M .floor) ≡ b → length (shown M p .payload) ≤ sh .cap
     go true l = absurd (not-gone (ap (λ (s : Slot). s .kind) (shown-below M p (ltb-true p (M .floor) l))))
     go false l = kept (shown M p) (shown-slot M p (ltb-false p (M .floor) l)) some-kind
 
@@ -57,7 +58,7 @@ gone-kind s k = rw k
 abbrev told : ℕ → Slot → Response
 told n s = cond (eqb n 0) (record { reply = Shown; page = slotPage s; layout = blank }) (bare (Refused n))
 
-module _ {h : History} {u : UnitNo} {M : State} (is : UnitIs h u M) (p : ℕ) where
+module _ {sh : Shape} {h : History} {u : UnitNo} {M : State} (is : UnitIs sh h u M) (p : ℕ) where
   -- what a unit shows, in the words of the history
   is-gone : shown M p .kind ≡ 3 → Answers h u p trimmed
   is-gone a = subst (λ r. Answers h u p r) (gone-kind (shown M p) a) (is .shown-is p)
@@ -65,18 +66,18 @@ module _ {h : History} {u : UnitNo} {M : State} (is : UnitIs h u M) (p : ℕ) wh
   is-empty : shown M p .kind ≡ 0 → Answers h u p unwritten
   is-empty a = subst (λ r. Answers h u p r) (empty-answers (shown M p) a) (is .shown-is p)
 
-  is-page : (s : Slot) → s ≡ shown M p → ¬ (shown M p .kind ≡ 0) → ¬ (shown M p .kind ≡ 3) → Answers h u p (shows (carried (slotPage s)))
-  is-page s same a b =
-      let page-is = page-answers (shown M p) a b ∙ ap shows (sym (carried-slot (shown M p) (shown-short M p (is .is-valid) a b))) in
+  is-page : sh .cap ≤ pageLimit → (s : Slot) → s ≡ shown M p → ¬ (shown M p .kind ≡ 0) → ¬ (shown M p .kind ≡ 3) → Answers h u p (shows (carried (slotPage s)))
+  is-page fits s same a b =
+      let page-is = page-answers (shown M p) a b ∙ ap shows (sym (carried-slot (shown M p) (le-trans (shown-short sh M p (is .is-valid) a b) fits))) in
       subst (λ t. Answers h u p (shows (carried (slotPage t)))) (sym same) (subst (λ r. Answers h u p r) page-is (is .shown-is p))
 
-module _ {h : History} {u : UnitNo} {M : State} {L : Map} {e : Epoch} (is : UnitIs h u M) (laid : Laid h L) (has : Has L u) (at : L .epoch ≡ e) (p : ℕ) where
+module _ {sh : Shape} {h : History} {u : UnitNo} {M : State} {L : Map} {e : Epoch} (fits : sh .cap ≤ pageLimit) (is : UnitIs sh h u M) (laid : Laid h L) (has : Has L u) (at : L .epoch ≡ e) (p : ℕ) where
   read-told : (n : ℕ) (s : Slot) → (n ≡ 0 → s ≡ shown M p) → ReadTells M e p n → ReadDone h u L p (told n s)
   read-told n s same (tells-position a) = no-read {n = 2} (λ z. omega arith) (λ z. omega arith) (λ z. omega arith)
   read-told n s same (tells-sealed a) = no-read {n = 4} (λ z. omega arith) (λ z. omega arith) (λ z. omega arith)
   read-told n s same (tells-trimmed lt a) = read-trimmed (takes-of is laid has at lt) (is-gone is p a)
   read-told n s same (tells-unwritten lt a) = read-unwritten (takes-of is laid has at lt) (is-empty is p a)
-  read-told n s same (tells-page lt a b) = read-page (takes-of is laid has at lt) (is-page is p s (same refl) a b)
+  read-told n s same (tells-page lt a b) = read-page (takes-of is laid has at lt) (is-page is p fits s (same refl) a b)
 
   pub read-does : ReadDone h u L p (reading M e p)
   unfolding reading

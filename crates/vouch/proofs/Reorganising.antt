@@ -16,7 +16,6 @@ use Rattle.layout.specs.Lay.{Lay, _in?_, unitsOf}
 use Rattle.layout.specs.Value.{layOf}
 use Rattle.layout.specs.Places.{above}
 use Rattle.layout.proofs.Sets.{above-next}
-use Rattle.unit.specs.Shape.{small}
 use Rattle.unit.specs.State.{State, edge}
 use Rattle.unit.specs.Unit.{freshUnit, sealUnit}
 use Rattle.unit.proofs.Lookup.{edge-limit}
@@ -32,7 +31,7 @@ use Rattle.client.specs.Turn.{numbered, next, sends}
 use Rattle.client.specs.Way.{unitAbove}
 use Rattle.client.specs.Reorganise.{seals, sealsOn, larger, sealedAt, onSealed}
 use Rattle.client.specs.Take.{answered}
-use Rattle.rule.specs.World.{World, isUnit, running}
+use Rattle.rule.specs.World.{World, shapeUnder, isUnit, running}
 use Rattle.rule.specs.Serve.{bare, atUnit, serve}
 use Rattle.vouch.specs.LastSentence.{exchanges, Conditions}
 use Rattle.vouch.proofs.Exchange.{pass, hold, not-so, waiting, as-turn, sends-on, Asked, exchange-on}
@@ -111,7 +110,7 @@ module _ (w : World) (c : ℕ) (sound : Sound w) (may : Conditions w c) where
     x₃ = numbered y₃ (next y₃)
 
     told-few : told .0 ≤ limit
-    told-few = edge-limit small M (on .kept v (is .low) (is .high) .is-valid)
+    told-few = edge-limit (shapeUnder k) M (on .kept v (is .low) (is .high) .is-valid)
 
     seal-taken : answered (y₃ .stage) x₃ (bare (Edge told)) ≡ sealsOn x₃ v (larger e told)
     unfolding answered inStage onSealed sealedAt

@@ -57,7 +57,7 @@ takes-answer x n s true e = ap (λ m. over x m (pageOf s)) (sym (eqb-true n 0 e)
 takes-answer x n s false e = pass _ _ (eqb n 0) e
 
 module _ (w : World) (c : ℕ) (ready : Ready w c) (p : Position) (below : p .0 < limit) (good : goodValue (w .held) ≡ true) where
-  fit : Fit (jobOf (Read p))
+  fit : Fit (jobOf (Read p)) (w .held .shape)
   fit = record { below = lt-leb limit (p .0) below; short = refl }
 
   abbrev x : Client

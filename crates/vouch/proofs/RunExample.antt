@@ -11,12 +11,14 @@ use Rattle.layout.specs.Lay.{Lay, rising, goodSet, goodSets, goodSpans, firstAt
 use Rattle.layout.specs.Value.{padded, layOf, valueOf, zeros, tidyChain, tidyChains, blankRanges, tidy, goodValue}
 use Rattle.layout.specs.Places.{placed, setNumber, setAt, headOf, tailOf, after, placeAnswer, unitsAt}
 use Rattle.layout.specs.Holder.{fetchedFrom}
+use Rattle.unit.specs.Shape.{shapeFor}
 use Rattle.unit.specs.State.{lookup, insert}
 use Rattle.unit.specs.Unit.{writeSays, written, writeUnit, readSays, readShows}
 use Rattle.sequencer.specs.Rules.{number, position, told, after as sequencer-after}
 use Rattle.client.specs.declared.Work.the-variants.{Append, Read, Fill}
 use Rattle.client.specs.declared.state.Job.{Job}
 use Rattle.client.specs.Client.{idle, inStage, atPosition, holding, jobOf, appendOf}
+use Rattle.client.specs.Message.{dataLimit}
 use Rattle.client.specs.Turn.{outcomeOf, over, ends, numbered, sends}
 use Rattle.client.specs.Way.{headFor, tailFor, afterFor}
 use Rattle.client.specs.Append.{draws, writes, writesAt, onToken, writesOn, onWritten}
@@ -39,7 +41,7 @@ use Rattle.vouch.proofs.Demand.{demand-3, spoken}
 
 -- one set, of units 1 and 2
 abbrev pub lay : Lay
-lay = record { epoch = 1; sets = (1 ∷ 2 ∷ []) ∷ []; spans = record { start = 0; uses = 1 } ∷ [] }
+lay = record { epoch = 1; shape = 0; sets = (1 ∷ 2 ∷ []) ∷ []; spans = record { start = 0; uses = 1 } ∷ [] }
 
 abbrev pub l : Layout
 l = valueOf lay
@@ -53,7 +55,7 @@ begin c j = record { does = Begin c; job = j }
 
 -- layout, token, head, tail: the last delivery ends it
 abbrev pub appending : Moves
-appending = none ▸ begin 1 (appendOf 1 (7 ∷ replicate 31 0)) ▸ deliver ▸ deliver ▸ deliver ▸ deliver ▸ deliver ▸ deliver ▸ deliver
+appending = none ▸ begin 1 (appendOf 1 (7 ∷ replicate 79 0)) ▸ deliver ▸ deliver ▸ deliver ▸ deliver ▸ deliver ▸ deliver ▸ deliver
 
 -- layout, tail
 abbrev pub reading : Moves
@@ -67,7 +69,7 @@ filling =
 
 -- by the rules, computed
 computed : AppendDone l appending deliver 0 (bytes (7 ∷ [])) × ReadEnds l reading deliver 0 1 (shows (bytes (7 ∷ []))) × ReadEnds l filling deliver 1 1 (shows junk) × (goodValue l ≡ true)
-unfolding padded layOf valueOf zeros tidyChain tidyChains blankRanges tidy goodValue rising goodSet goodSets goodSpans firstAtZero used good placed setNumber setAt headOf tailOf after placeAnswer unitsAt fetchedFrom lookup insert writeSays written writeUnit number position told sequencer-after idle inStage atPosition holding outcomeOf over ends numbered sends headFor tailFor afterFor draws writes writesAt onToken writesOn onWritten dataPage beginAnswer withJob beginTurn goesOn holds onFetched answered awaited takes without turned beginNumber begins served taken delivered delivers step kindOf bytesOf asking fetching serve freshUnits freshWorld world readSays readShows pageOf shown reads onRead fills fillsOn onFilled
+unfolding padded layOf valueOf zeros tidyChain tidyChains blankRanges tidy goodValue rising goodSet goodSets goodSpans firstAtZero used good placed setNumber setAt headOf tailOf after placeAnswer unitsAt fetchedFrom lookup insert writeSays written writeUnit number position told sequencer-after idle inStage atPosition holding outcomeOf over ends numbered sends dataLimit shapeFor headFor tailFor afterFor draws writes writesAt onToken writesOn onWritten dataPage beginAnswer withJob beginTurn goesOn holds onFetched answered awaited takes without turned beginNumber begins served taken delivered delivers step kindOf bytesOf asking fetching serve freshUnits freshWorld world readSays readShows pageOf shown reads onRead fills fillsOn onFilled
 computed = (
   record {
     client = 1;

@@ -19,7 +19,7 @@ use Rattle.rule.specs.declared.Body.the-variants.{Blank, Asks, Answers}
 use Rattle.rule.specs.declared.Letter.{Letter}
 use Rattle.rule.specs.declared.Step.{Step}
 use Rattle.rule.specs.declared.Step.the-variants.{Begin, Deliver, Drop, Stop, Restart, GiveUp, Forget}
-use Rattle.rule.specs.World.{World, isClient, running, clientAt, unitAt, letterAt}
+use Rattle.rule.specs.World.{World, shapeUnder, isClient, running, clientAt, unitAt, letterAt}
 use Rattle.rule.specs.Serve.{serve, asking, offeringTo}
 use Rattle.rule.specs.Steps.{Done, refused, fine, keeping, tooMany, withLetters, sentBy, turned, beginNumber, begins, answers, served, taken, unbrought, brought, delivered, delivers, drops, stops, restartNumber, restarts, givesUp, forgets, response, step}
 use Rattle.rule.specs.Fresh.{freshWorld}
@@ -37,7 +37,7 @@ use Rattle.vouch.proofs.Forward.{Sound}
 -- ---- from a history
 
 pub sound-of : {h : History} {w : World} → Run h → held h ≡ mapOf (layOf (w .held)) → goodValue (w .held) ≡ true → w .sequencer .epoch .0 ≤ held h .epoch →
-    length (w .units) ≡ 8 → ((u : UnitNo) → 1 ≤ u → u ≤ 8 → UnitIs h u (unitAt w u)) → length (w .clients) ≡ 4 → length (w .stopped) ≡ 8 → Sound w
+    length (w .units) ≡ 8 → ((u : UnitNo) → 1 ≤ u → u ≤ 8 → UnitIs (shapeUnder (w .held)) h u (unitAt w u)) → length (w .clients) ≡ 4 → length (w .stopped) ≡ 8 → Sound w
 unfolding layOf
 sound-of {h} {w} run holds good low eight-units units four eight-stopped =
     let same : held h .epoch ≡ w .held .epoch .0 = ap (λ (m : Map). m .epoch) holds in

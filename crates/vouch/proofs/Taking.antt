@@ -185,9 +185,9 @@ module _ (w : World) (j : Job) (c : ℕ) (r : Answer) (low : 1 ≤ c) where
       turn true o = sends-not _ _ o
       turn false o = rests-not _ o
 
-      go : (b : Bool) → cond b (turned w (w .letters) i (beginTurn (clientAt w i) j)) (refused w (beginNumber w i j)) .who ≡ c →
-          ¬ Returns (cond b (turned w (w .letters) i (beginTurn (clientAt w i) j)) (refused w (beginNumber w i j)) .outcome) r
-      go true who returns = turn (eqb (beginAnswer (clientAt w i) j) 0) (over-of (w .letters) i (beginTurn (clientAt w i) j) who returns)
+      go : (b : Bool) → cond b (turned w (w .letters) i (beginTurn (clientAt w i) j (w .held .shape))) (refused w (beginNumber w i j)) .who ≡ c →
+          ¬ Returns (cond b (turned w (w .letters) i (beginTurn (clientAt w i) j (w .held .shape))) (refused w (beginNumber w i j)) .outcome) r
+      go true who returns = turn (eqb (beginAnswer (clientAt w i) j (w .held .shape)) 0) (over-of (w .letters) i (beginTurn (clientAt w i) j (w .held .shape)) who returns)
       go false who returns = nobody (refused w (beginNumber w i j)) refl who
 
   pub give-up-not : (i : ℕ) → givesUp w i .who ≡ c → ¬ Returns (givesUp w i .outcome) r

@@ -7,7 +7,7 @@ use Prim.Native.Nat.{ℕ, _<_}
 use native.Mathlib.Omega.{arith}
 use borrow.Author.Tests.{ltb-true, ltb-false}
 use lib.Dec.{ltb}
-use Rattle.unit.specs.Shape.{small}
+use Rattle.unit.specs.declared.shape.Shape.{Shape}
 use Rattle.unit.specs.State.{State}
 use Rattle.unit.specs.Unit.{trimSays, trimUnit, pruneSays, pruneUnit}
 use Rattle.unit.proofs.Answers.{by-answer}
@@ -40,32 +40,32 @@ gone-answers p = refl
 pub trim-marks : {h : History} {u : UnitNo} {L : Map} {p : Pos} {e : Epoch} → L .epoch ≡ e → MarkedBy (h ▹ trim u L p) u p gone e
 trim-marks {L = L} at = record { epoch = L .epoch; by = omega arith; marked = marked-trim }
 
-module _ {h : History} {u : UnitNo} {M : State} {L : Map} {e : Epoch} (is : UnitIs h u M) (laid : Laid h L) (has : Has L u) (at : L .epoch ≡ e) (p : ℕ) where
-  trimmed-is : trimSays small M e p ≡ 0 → UnitIs (h ▹ trim u L p) u (trimUnit small M e p)
+module _ {sh : Shape} {h : History} {u : UnitNo} {M : State} {L : Map} {e : Epoch} (is : UnitIs sh h u M) (laid : Laid h L) (has : Has L u) (at : L .epoch ≡ e) (p : ℕ) where
+  trimmed-is : trimSays sh M e p ≡ 0 → UnitIs sh (h ▹ trim u L p) u (trimUnit sh M e p)
   unfolding sealed
   trimmed-is z =
-      one-touched p trimmed is refl (trim-lasts small M (is .is-valid) e p)
-      (ap answerOf (trim-here small M e p (is .is-valid) z) ∙ gone-answers p)
+      one-touched p trimmed is refl (trim-lasts sh M (is .is-valid) e p)
+      (ap answerOf (trim-here sh M e p (is .is-valid) z) ∙ gone-answers p)
       trim-shows
-      (λ q ne. (trim-other small M e p q ne, λ t. ne (sym (trim-touches t .1))))
+      (λ q ne. (trim-other sh M e p q ne, λ t. ne (sym (trim-touches t .1))))
 
-  pub trim-does : ((v : UnitNo) → Before v u (L .set p) → MarkedBy h v p gone e) → Noted h (trimAt p) → TrimDone h u L p (trimUnit small M e p) (saying (trimSays small M e p))
+  pub trim-does : ((v : UnitNo) → Before v u (L .set p) → MarkedBy h v p gone e) → Noted h (trimAt p) → TrimDone sh h u L p (trimUnit sh M e p) (saying (trimSays sh M e p))
   trim-does above asked =
-      by-answer (λ r. TrimDone h u L p (trimUnit small M e p) r) (trimSays small M e p)
+      by-answer (λ r. TrimDone sh h u L p (trimUnit sh M e p) r) (trimSays sh M e p)
       (λ z. did-trim (record {
-        takes = takes-of is laid has at (trim-finds small M e p z .unsealed);
+        takes = takes-of is laid has at (trim-finds sh M e p z .unsealed);
         above = λ v before. longer (omega arith) (above v before);
         asked = asked;
       }) (trimmed-is z))
-      (λ n. no-trim n (subst (λ N. UnitIs h u N) (sym (trim-refused small M e p n)) is))
+      (λ n. no-trim n (subst (λ N. UnitIs sh h u N) (sym (trim-refused sh M e p n)) is))
 
 -- ---- prune
 
 pub prune-marks : {h : History} {u : UnitNo} {L : Map} {p q : Pos} {e : Epoch} → L .epoch ≡ e → p < q → MarkedBy (h ▹ prune u L q) u p gone e
 prune-marks {L = L} at below = record { epoch = L .epoch; by = omega arith; marked = marked-prune below }
 
-module _ {h : History} {u : UnitNo} {M : State} {L : Map} {e : Epoch} (is : UnitIs h u M) (laid : Laid h L) (has : Has L u) (at : L .epoch ≡ e) (q : ℕ) where
-  pruned-is : pruneSays M e q ≡ 0 → UnitIs (h ▹ prune u L q) u (pruneUnit M e q)
+module _ {sh : Shape} {h : History} {u : UnitNo} {M : State} {L : Map} {e : Epoch} (is : UnitIs sh h u M) (laid : Laid h L) (has : Has L u) (at : L .epoch ≡ e) (q : ℕ) where
+  pruned-is : pruneSays M e q ≡ 0 → UnitIs sh (h ▹ prune u L q) u (pruneUnit M e q)
   unfolding sealed
   pruned-is z = record {
     is-valid = lasts .isValid;
@@ -73,8 +73,8 @@ module _ {h : History} {u : UnitNo} {M : State} {L : Map} {e : Epoch} (is : Unit
     shown-is = λ p. go p (ltb p q) refl;
   }
     where
-      lasts : Lasts small M (pruneUnit M e q)
-      lasts = prune-lasts small M (is .is-valid) e q
+      lasts : Lasts sh M (pruneUnit M e q)
+      lasts = prune-lasts sh M (is .is-valid) e q
 
       go : (p : Pos) (b : Bool) → ltb p q ≡ b → Answers (h ▹ prune u L q) u p (answerOf (shown (pruneUnit M e q) p))
       go p true l =
@@ -85,12 +85,12 @@ module _ {h : History} {u : UnitNo} {M : State} {L : Map} {e : Epoch} (is : Unit
           subst (λ s. Answers (h ▹ prune u L q) u p (answerOf s)) (sym (prune-other M e q p from))
           (answers-on (λ t. omega (arith, prune-touches t .1)) (is .shown-is p))
 
-  pub prune-does : ((v : UnitNo) → Before v u (L .units) → (p : Pos) → p < q → MarkedBy h v p gone e) → Noted h (pruneTo q) → PruneDone h u L q (pruneUnit M e q) (saying (pruneSays M e q))
+  pub prune-does : ((v : UnitNo) → Before v u (L .units) → (p : Pos) → p < q → MarkedBy h v p gone e) → Noted h (pruneTo q) → PruneDone sh h u L q (pruneUnit M e q) (saying (pruneSays M e q))
   prune-does above asked =
-      by-answer (λ r. PruneDone h u L q (pruneUnit M e q) r) (pruneSays M e q)
+      by-answer (λ r. PruneDone sh h u L q (pruneUnit M e q) r) (pruneSays M e q)
       (λ z. did-prune (record {
         takes = takes-of is laid has at (prune-finds M e q z .unsealed);
         above = λ v before p below. longer (omega arith) (above v before p below);
         asked = asked;
       }) (pruned-is z))
-      (λ n. no-prune n (subst (λ N. UnitIs h u N) (sym (prune-refused M e q n)) is))
+      (λ n. no-prune n (subst (λ N. UnitIs sh h u N) (sym (prune-refused M e q n)) is))

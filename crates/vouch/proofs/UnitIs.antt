@@ -7,7 +7,7 @@ use lib.Dec.{eqb}
 use Rattle.num.specs.Limits.{limit}
 use Rattle.num.specs.declared.Position.{Position}
 use Rattle.layout.specs.Value.{blank}
-use Rattle.unit.specs.Shape.{small}
+use Rattle.unit.specs.declared.shape.Shape.{Shape}
 use Rattle.unit.specs.State.{Slot, State}
 use Rattle.unit.specs.Memory.{valid}
 use Rattle.unit.proofs.Shown.{shown}
@@ -32,33 +32,33 @@ use Rattle.vouch.specs.Pages.{pageOf, carried}
 unfoldable pub answerOf : Slot → Answer
 answerOf s = cond (eqb (s .kind) 3) trimmed (cond (eqb (s .kind) 0) unwritten (shows (pageOf (s .kind) (s .payload))))
 
--- M is the state of the unit u after h: its sealed epoch, and what it shows at every position (below the floor a slot of kind 3).
+-- M is the state of the unit u, of the shape sh, after h: its sealed epoch, and what it shows at every position (below the floor a slot of kind 3).
 -- Its edge is one too: `edge-is`.
-pub record UnitIs (h : History) (u : UnitNo) (M : State) : Type 0 where
-  pub is-valid : valid small M ≡ true
+pub record UnitIs (sh : Shape) (h : History) (u : UnitNo) (M : State) : Type 0 where
+  pub is-valid : valid sh M ≡ true
   pub sealed-is : M .sealed ≡ sealed h u
   pub shown-is : (p : Pos) → Answers h u p (answerOf (shown M p))
 
 -- ---- what each answer says. M is the unit afterwards
 
 -- 6 at a unit that is not the first of its set: it has that very page
-pub data WriteDone (h : History) (u : UnitNo) (L : Map) (p : Pos) (X : Page) (e : Epoch) (M : State) : Reply → Type 0 where
-  did-write : MayWrite h u L p X → UnitIs (h ▹ write u L p X) u M → WriteDone h u L p X e M Fine
-  was-written : ((v : UnitNo) → Before v u (L .set p) → MarkedBy h u p (page X) e) → UnitIs h u M → WriteDone h u L p X e M (Refused 6)
-  no-write : {n : ℕ} → ¬ (n ≡ 0) → ¬ (n ≡ 6) → UnitIs h u M → WriteDone h u L p X e M (Refused n)
+pub data WriteDone (sh : Shape) (h : History) (u : UnitNo) (L : Map) (p : Pos) (X : Page) (e : Epoch) (M : State) : Reply → Type 0 where
+  did-write : MayWrite h u L p X → UnitIs sh (h ▹ write u L p X) u M → WriteDone sh h u L p X e M Fine
+  was-written : ((v : UnitNo) → Before v u (L .set p) → MarkedBy h u p (page X) e) → UnitIs sh h u M → WriteDone sh h u L p X e M (Refused 6)
+  no-write : {n : ℕ} → ¬ (n ≡ 0) → ¬ (n ≡ 6) → UnitIs sh h u M → WriteDone sh h u L p X e M (Refused n)
 
 -- a trim or prune that is fine is an event, also where it changes nothing
-pub data TrimDone (h : History) (u : UnitNo) (L : Map) (p : Pos) (M : State) : Reply → Type 0 where
-  did-trim : MayTrim h u L p → UnitIs (h ▹ trim u L p) u M → TrimDone h u L p M Fine
-  no-trim : {n : ℕ} → ¬ (n ≡ 0) → UnitIs h u M → TrimDone h u L p M (Refused n)
+pub data TrimDone (sh : Shape) (h : History) (u : UnitNo) (L : Map) (p : Pos) (M : State) : Reply → Type 0 where
+  did-trim : MayTrim h u L p → UnitIs sh (h ▹ trim u L p) u M → TrimDone sh h u L p M Fine
+  no-trim : {n : ℕ} → ¬ (n ≡ 0) → UnitIs sh h u M → TrimDone sh h u L p M (Refused n)
 
-pub data PruneDone (h : History) (u : UnitNo) (L : Map) (q : Pos) (M : State) : Reply → Type 0 where
-  did-prune : MayPrune h u L q → UnitIs (h ▹ prune u L q) u M → PruneDone h u L q M Fine
-  no-prune : {n : ℕ} → ¬ (n ≡ 0) → UnitIs h u M → PruneDone h u L q M (Refused n)
+pub data PruneDone (sh : Shape) (h : History) (u : UnitNo) (L : Map) (q : Pos) (M : State) : Reply → Type 0 where
+  did-prune : MayPrune h u L q → UnitIs sh (h ▹ prune u L q) u M → PruneDone sh h u L q M Fine
+  no-prune : {n : ℕ} → ¬ (n ≡ 0) → UnitIs sh h u M → PruneDone sh h u L q M (Refused n)
 
-pub data SealDone (h : History) (u : UnitNo) (n : Epoch) (M : State) : Reply → Type 0 where
-  did-seal : {g : Position} → MaySeal h u n → UnitIs (h ▹ seal u n) u M → SealAnswer (h ▹ seal u n) u n (g .0) → g .0 ≤ limit → SealDone h u n M (Edge g)
-  no-seal : {k : ℕ} → ¬ (k ≡ 0) → UnitIs h u M → SealDone h u n M (Refused k)
+pub data SealDone (sh : Shape) (h : History) (u : UnitNo) (n : Epoch) (M : State) : Reply → Type 0 where
+  did-seal : {g : Position} → MaySeal h u n → UnitIs sh (h ▹ seal u n) u M → SealAnswer (h ▹ seal u n) u n (g .0) → g .0 ≤ limit → SealDone sh h u n M (Edge g)
+  no-seal : {k : ℕ} → ¬ (k ≡ 0) → UnitIs sh h u M → SealDone sh h u n M (Refused k)
 
 -- a read leaves the unit as it was
 pub data ReadDone (h : History) (u : UnitNo) (L : Map) (p : Pos) : Response → Type 0 where

@@ -2,7 +2,7 @@
 -- Rests on UnitIs, Units and the unit's laws.
 use mathlib.Core.Path.{_≡_, refl, sym, ap, subst, _∙_}
 use Prim.Native.Nat.{_≤_}
-use Rattle.unit.specs.Shape.{small}
+use Rattle.unit.specs.declared.shape.Shape.{Shape}
 use Rattle.unit.specs.State.{Slot, State, nothing, edge}
 use Rattle.unit.specs.Unit.{freshUnit}
 use Rattle.unit.proofs.Keeping.{fresh-valid}
@@ -30,48 +30,48 @@ pub not-marked : {h : History} {u : UnitNo} {p : Pos} → Answers h u p unwritte
 not-marked (has-none unmarked) = unmarked
 
 -- a unit's edge is one
-pub edge-is : {h : History} {u : UnitNo} {M : State} → UnitIs h u M → Edge h u (edge M)
-edge-is {h} {u} {M} is p at =
-    not-marked (subst (λ r. Answers h u p r) (none-answers (shown-edge small M p (is .is-valid) at)) (is .shown-is p))
+pub edge-is : {sh : Shape} {h : History} {u : UnitNo} {M : State} → UnitIs sh h u M → Edge h u (edge M)
+edge-is {sh} {h} {u} {M} is p at =
+    not-marked (subst (λ r. Answers h u p r) (none-answers (shown-edge sh M p (is .is-valid) at)) (is .shown-is p))
 
-pub fresh-is : (L : Map) (u : UnitNo) → 1 ≤ u → u ≤ 8 → UnitIs (fresh L) u (freshUnit u)
+pub fresh-is : (sh : Shape) (L : Map) (u : UnitNo) → 1 ≤ u → u ≤ 8 → UnitIs sh (fresh L) u (freshUnit u)
 unfolding sealed
-fresh-is L u least most = record {
-  is-valid = fresh-valid small u least most;
+fresh-is sh L u least most = record {
+  is-valid = fresh-valid sh u least most;
   sealed-is = refl;
   shown-is = λ p. subst (λ r. Answers (fresh L) u p r) (sym (none-answers (shown-fresh u p))) (has-none (λ m a. no-mark));
 }
 
 -- ---- units that an event leaves alone
 
-pub other-is : {h : History} {ev : Event} {u : UnitNo} {M : State} → ((p : Pos) → ¬ Touches ev u p) → sealed (h ▹ ev) u ≡ sealed h u → UnitIs h u M → UnitIs (h ▹ ev) u M
+pub other-is : {sh : Shape} {h : History} {ev : Event} {u : UnitNo} {M : State} → ((p : Pos) → ¬ Touches ev u p) → sealed (h ▹ ev) u ≡ sealed h u → UnitIs sh h u M → UnitIs sh (h ▹ ev) u M
 other-is none same is = record {
   is-valid = is .is-valid;
   sealed-is = is .sealed-is ∙ sym same;
   shown-is = λ p. answers-on (none p) (is .shown-is p);
 }
 
-module _ {h : History} {v : UnitNo} {M : State} (is : UnitIs h v M) where
-  pub ask-is : {w : Note} → UnitIs (h ▹ ask w) v M
+module _ {sh : Shape} {h : History} {v : UnitNo} {M : State} (is : UnitIs sh h v M) where
+  pub ask-is : {w : Note} → UnitIs sh (h ▹ ask w) v M
   unfolding sealed
   ask-is = other-is (λ p. ask-touches) refl is
 
-  pub install-is : {L : Map} → UnitIs (h ▹ install L) v M
+  pub install-is : {L : Map} → UnitIs sh (h ▹ install L) v M
   unfolding sealed
   install-is = other-is (λ p. install-touches) refl is
 
   module _ {u : UnitNo} (other : ¬ (v ≡ u)) where
-    pub write-others : {L : Map} {p : Pos} {X : Page} → UnitIs (h ▹ write u L p X) v M
+    pub write-others : {L : Map} {p : Pos} {X : Page} → UnitIs sh (h ▹ write u L p X) v M
     unfolding sealed
     write-others = other-is (λ p t. other (write-touches t .0)) refl is
 
-    pub trim-others : {L : Map} {p : Pos} → UnitIs (h ▹ trim u L p) v M
+    pub trim-others : {L : Map} {p : Pos} → UnitIs sh (h ▹ trim u L p) v M
     unfolding sealed
     trim-others = other-is (λ p t. other (trim-touches t .0)) refl is
 
-    pub prune-others : {L : Map} {q : Pos} → UnitIs (h ▹ prune u L q) v M
+    pub prune-others : {L : Map} {q : Pos} → UnitIs sh (h ▹ prune u L q) v M
     unfolding sealed
     prune-others = other-is (λ p t. other (prune-touches t .0)) refl is
 
-    pub seal-others : {n : Epoch} → UnitIs (h ▹ seal u n) v M
+    pub seal-others : {n : Epoch} → UnitIs sh (h ▹ seal u n) v M
     seal-others {n} = other-is (λ p. seal-touches) (sealed-other h u v n other) is

@@ -10,6 +10,7 @@ use lib.Dec.{ltb}
 use lib.ListN.{length, getD, length-append}
 use Rattle.num.proofs.Tests.{false-true}
 use Rattle.layout.specs.declared.Layout.{Layout}
+use Rattle.unit.specs.declared.shape.Shape.{Shape}
 use Rattle.unit.specs.State.{State}
 use Rattle.sequencer.specs.declared.Sequencer.{Sequencer}
 use Rattle.client.specs.declared.Page.{Page}
@@ -25,7 +26,7 @@ use Rattle.rule.specs.declared.Body.the-variants.{Blank, Asks, Answers}
 use Rattle.rule.specs.declared.Letter.{Letter}
 use Rattle.rule.specs.declared.Yard.{Yard}
 use Rattle.yard.specs.declared.machine.Service.{Service}
-use Rattle.rule.specs.World.{World, isClient, unitLimit, blankLetter}
+use Rattle.rule.specs.World.{World, shapeUnder, isClient, unitLimit, blankLetter}
 use Rattle.rule.specs.Serve.{Served, serve, unserved, asking, offeringTo}
 use Rattle.rule.specs.Steps.{Done, refused, without, keeping, tooMany, withLetters, sentBy, answerTo, answers, served, taken, response, delivered, delivers}
 use Rattle.rule.specs.Lent.{unitsIn, unitsBytes}
@@ -88,7 +89,7 @@ same-clients w (Start e p) g l = (refl, refl)
 
 -- ---- a refusal, for one that is brought a letter
 
-pub decided-moved : {l : Letter} {rule : List Letter → List State → Done} {n i : ℕ} {m : _} (us : List State) {after : List ℕ} → after ≡ unitsBytes us → Moved rule n i m → Decided l (λ ls. rule ls us) n i m after
+pub decided-moved : {sh : Shape} {l : Letter} {rule : List Letter → List State → Done} {n i : ℕ} {m : _} (us : List State) {after : List ℕ} → after ≡ unitsBytes sh us → Moved rule n i m → Decided sh l (λ ls. rule ls us) n i m after
 decided-moved us e v = record { units = us; memories-is = e; done-is = λ ls k t. v .done-is ls us k; count-is = v .count-is; there = v .there; room = v .room }
 
 module _ (y : Yard) (s : Sequencer) (keep k : Bool) (l : Letter) where
@@ -109,8 +110,8 @@ module _ (y : Yard) (s : Sequencer) (keep k : Bool) (l : Letter) where
       unfolding delivered served
       asks-full f = moved-quiet y s 16 refl (λ ls us e. rw (q, t, full true f ls (serve (worldWith y s ls us) a (l .page) (l .layout) .response) e))
 
-      pub asks-served : ltb 32 (countAfter (y .count) keep k) ≡ false → (m : List ℕ) {v : Service} {after : List ℕ} → IsServed (serve (worldOf y s [] m) a (l .page) (l .layout)) v after
-          → Decided l (λ ls. rule i ls (unitsIn unitLimit m)) (y .count) i (answering y keep k (l .stamp) v) after
+      pub asks-served : ltb 32 (countAfter (y .count) keep k) ≡ false → (m : List ℕ) {v : Service} {after : List ℕ} → IsServed (shapeUnder (y .held)) (serve (worldOf y s [] m) a (l .page) (l .layout)) v after
+          → Decided (shapeUnder (y .held)) l (λ ls. rule i ls (unitsIn (shapeUnder (y .held)) unitLimit m)) (y .count) i (answering y keep k (l .stamp) v) after
       unfolding delivered served
       asks-served f m {v} d =
           let w : World = worldOf y s [] m in
@@ -165,8 +166,8 @@ blank-at ls n i e z q = go (ltb i n) refl
     go false t = ap (λ (x : Letter). x .body) (getD-out ls i blankLetter (rw e (ltb-false i n t)))
 
 -- there is no such letter, or it is blank
-pub delivers-nobody : (y : Yard) (s : Sequencer) (us : List State) {after : List ℕ} (i : ℕ) (keep k : Bool) (l : Letter) → after ≡ unitsBytes us → (i < y .count → l .body ≡ Blank)
-    → Decided l (λ ls. delivers (worldWith y s ls us) i keep k) (y .count) i (refusing y s 17) after
+pub delivers-nobody : {sh : Shape} (y : Yard) (s : Sequencer) (us : List State) {after : List ℕ} (i : ℕ) (keep k : Bool) (l : Letter) → after ≡ unitsBytes sh us → (i < y .count → l .body ≡ Blank)
+    → Decided sh l (λ ls. delivers (worldWith y s ls us) i keep k) (y .count) i (refusing y s 17) after
 unfolding delivers delivered
 delivers-nobody y s us i keep k l m q = record {
   units = us;
@@ -178,8 +179,8 @@ delivers-nobody y s us i keep k l m q = record {
 }
 
 -- the letter is the one at its place
-pub delivers-brought : (y : Yard) (s : Sequencer) (us : List State) {i : ℕ} (keep k : Bool) {l : Letter} {m : _} {after : List ℕ} → i < y .count
-    → Decided l (λ ls. delivered (worldWith y s ls us) i keep k l) (y .count) i m after → Decided l (λ ls. delivers (worldWith y s ls us) i keep k) (y .count) i m after
+pub delivers-brought : {sh : Shape} (y : Yard) (s : Sequencer) (us : List State) {i : ℕ} (keep k : Bool) {l : Letter} {m : _} {after : List ℕ} → i < y .count
+    → Decided sh l (λ ls. delivered (worldWith y s ls us) i keep k l) (y .count) i m after → Decided sh l (λ ls. delivers (worldWith y s ls us) i keep k) (y .count) i m after
 unfolding delivers
 delivers-brought y s us {i} keep k {l} h d = record {
   units = d .units;

@@ -9,7 +9,9 @@ use Rattle.num.specs.declared.Epoch.{Epoch}
 use Rattle.num.specs.declared.Position.{Position}
 use Rattle.num.proofs.Tests.{and-both}
 use Rattle.layout.specs.declared.Layout.{Layout}
+use Rattle.unit.specs.Shape.{shapeOf}
 use Rattle.unit.specs.State.{State}
+use Rattle.unit.specs.Memory.{codeOf}
 use Rattle.unit.specs.Unit.{freshUnit}
 use Rattle.sequencer.specs.declared.Sequencer.{Sequencer}
 use Rattle.client.specs.declared.Page.{Page}
@@ -19,7 +21,7 @@ use Rattle.client.specs.declared.Response.{Response}
 use Rattle.rule.specs.declared.Letter.{Letter}
 use Rattle.rule.specs.declared.Yard.{Yard}
 use Rattle.yard.specs.declared.machine.Service.{Service}
-use Rattle.rule.specs.World.{World, isUnit, running, unitLimit}
+use Rattle.rule.specs.World.{World, shapeUnder, isUnit, running, unitLimit}
 use Rattle.rule.specs.Lent.{unitsIn, unitsBytes}
 use Rattle.rule.specs.Serve.{Served, serve, unserved}
 use Rattle.yard.proofs.Places.{set-same}
@@ -59,15 +61,22 @@ served-unit stopped {u = u} prunes h = runs stopped u h
 served-unit stopped {u = u} seals h = runs stopped u h
 
 module _ (y : Yard) (s : Sequencer) (m : List ℕ) (g : Page) (l : Layout) where
-  -- the answer of the unit u, with the holder and the sequencer as they were
-  pub at-unit : {a : Ask} {u : ℕ} {response : Response} {r : Service} {after : List ℕ} → Asks a u
-      → AtUnit m u (unitSays (unitOf m u) a g) (unitAfter (unitOf m u) a g) response after
+  -- the answer of the unit u in the yard's shape, with the holder and the sequencer as they were
+  answer : {a : Ask} {u : ℕ} {response : Response} {r : Service} {after : List ℕ} → Asks a u
+      → (let sh = shapeUnder (y .held) in AtUnit sh m u (unitSays sh (unitOf sh m u) a g) (unitAfter sh (unitOf sh m u) a g) response after)
       → r ≡ record { response = response; held = y .held; sequencer = s }
-      → IsServed (serve (worldOf y s [] m) a g l) r after
+      → IsServed (shapeUnder (y .held)) (serve (worldOf y s [] m) a g l) r after
   unfolding serve unitSays unitAfter
-  at-unit writes k e = record { response-is = rw e (k .response-is); held-is = rw e; sequencer-is = rw e; memories-is = k .memories-is }
-  at-unit {u = u} reads k e =
-      record { response-is = rw e (k .response-is); held-is = rw e; sequencer-is = rw e; memories-is = k .memories-is ∙ ap unitsBytes (set-same (unitsIn unitLimit m) (u - 1) (freshUnit u)) }
-  at-unit trims k e = record { response-is = rw e (k .response-is); held-is = rw e; sequencer-is = rw e; memories-is = k .memories-is }
-  at-unit prunes k e = record { response-is = rw e (k .response-is); held-is = rw e; sequencer-is = rw e; memories-is = k .memories-is }
-  at-unit seals k e = record { response-is = rw e (k .response-is); held-is = rw e; sequencer-is = rw e; memories-is = k .memories-is }
+  answer writes k e = record { response-is = rw e (k .response-is); held-is = rw e; sequencer-is = rw e; memories-is = k .memories-is }
+  answer {u = u} reads k e =
+      record { response-is = rw e (k .response-is); held-is = rw e; sequencer-is = rw e; memories-is = k .memories-is ∙ ap (unitsBytes (shapeUnder (y .held))) (set-same (unitsIn (shapeUnder (y .held)) unitLimit m) (u - 1) (freshUnit u)) }
+  answer trims k e = record { response-is = rw e (k .response-is); held-is = rw e; sequencer-is = rw e; memories-is = k .memories-is }
+  answer prunes k e = record { response-is = rw e (k .response-is); held-is = rw e; sequencer-is = rw e; memories-is = k .memories-is }
+  answer seals k e = record { response-is = rw e (k .response-is); held-is = rw e; sequencer-is = rw e; memories-is = k .memories-is }
+
+  -- which is the one that the first memory names
+  pub at-unit : {a : Ask} {u : ℕ} {response : Response} {r : Service} {after : List ℕ} → codeOf m ≡ y .held .shape → Asks a u
+      → AtUnit (shapeOf m) m u (unitSays (shapeOf m) (unitOf (shapeOf m) m u) a g) (unitAfter (shapeOf m) (unitOf (shapeOf m) m u) a g) response after
+      → r ≡ record { response = response; held = y .held; sequencer = s }
+      → IsServed (shapeUnder (y .held)) (serve (worldOf y s [] m) a g l) r after
+  at-unit c t k e = answer t (rw c at k) e

@@ -18,31 +18,33 @@ use Rattle.rule.specs.declared.Letter.{Letter}
 use Rattle.rule.specs.declared.Yard.{Yard}
 use Rattle.rule.specs.declared.Step.{Step}
 use Rattle.yard.specs.declared.moves.Moves.{Moves}
-use Rattle.rule.specs.World.{blankLetter}
+use Rattle.unit.specs.declared.shape.Shape.{Shape}
+use Rattle.rule.specs.World.{shapeUnder, blankLetter}
 use Rattle.yard.specs.Bag.{takeAt}
 use Rattle.rule.specs.Steps.{Done, step, keeping}
 use Rattle.rule.specs.Lent.{Lent, fetched, goodClients, goodUnits, testNumber, lentNumber, seen, left, done, unlent, steps}
 use Rattle.yard.specs.Parts.{worldOf}
 use Rattle.yard.specs.Moves.{posting, countAfter, refusing, Decided}
 use Rattle.yard.specs.Settled.{placeOf, settling, Settles, Decides}
+use Rattle.rule.proofs.Shaping.{step-shape}
 use Rattle.yard.proofs.Delivering.{after-length}
 use Rattle.yard.proofs.Laying.{set-past, laid-is}
 
 -- ---- what the tests say
 
 pub record Tested (y : Yard) (places : ℕ) (m : List ℕ) : Type 0 where
-  pub memories : goodUnits 1 8 m ≡ true
+  pub memories : goodUnits (y .held .shape) 1 8 m ≡ true
   pub long : places ≡ 32
   pub few : y .count ≤ 32
 
 pub tested : (y : Yard) (places : ℕ) (m : List ℕ) → testNumber y places m ≡ 0 → Tested y places m
 unfolding testNumber
 tested y places m z =
-    let (a, u) = cond-zero (not (goodUnits 1 8 m)) 1 _ (omega arith) z in
+    let (a, u) = cond-zero (not (goodUnits (y .held .shape) 1 8 m)) 1 _ (omega arith) z in
     let (b, v) = cond-zero (not (goodValue (y .held) && goodClients (y .clients))) 10 _ (omega arith) u in
     let (d, w) = cond-zero (not (eqb places 32) || ltb 32 (y .count)) 16 0 (omega arith) v in
     let (e, f) = or-false (not (eqb places 32)) (ltb 32 (y .count)) d in
-    record { memories = not-false (goodUnits 1 8 m) a; long = eqb-true places 32 (not-false (eqb places 32) e); few = ltb-false 32 (y .count) f }
+    record { memories = not-false (goodUnits (y .held .shape) 1 8 m) a; long = eqb-true places 32 (not-false (eqb places 32) e); few = ltb-false 32 (y .count) f }
 
 -- the four clients
 abbrev good-client : Client → Bool
@@ -92,7 +94,7 @@ module _ (y : Yard) (q : Sequencer) (table : List Letter) (m : List ℕ) (s : St
 
   -- DECIDED
   pub settles-decided : {l : Letter} {mv : Moves} {after : List ℕ} → testNumber y (length table) m ≡ 0 → takeAt table (placeOf s) ≡ l
-      → Decided l (λ ls. step (worldOf y q ls m) s j) (y .count) (placeOf s) mv after → Settles lent s j (settling mv (length table) (placeOf s)) after
+      → Decided (shapeUnder (y .held)) l (λ ls. step (worldOf y q ls m) s j) (y .count) (placeOf s) mv after → Settles lent s j (settling mv (length table) (placeOf s)) after
   unfolding steps done left seen lentNumber testNumber
   settles-decided {l} {mv} {after} z taken d =
       let t = tested y (length table) m z in
@@ -102,12 +104,13 @@ module _ (y : Yard) (q : Sequencer) (table : List Letter) (m : List ℕ) (s : St
       let len : length ls ≡ n = length-take-le n table (omega (arith, t .long, t .few)) in
       let e = d .done-is ls len (λ h. getD-take n table i blankLetter h ∙ taken) in
       let f : eqb (lentNumber lent) 0 ≡ true = eq-eqb _ 0 z in
+      let kept : mv .yard .held .shape ≡ y .held .shape = rw e at (step-shape (worldOf y q ls m) s j) in
       let c : length (keeping (mv .keeps) i ls ++ posting (mv .posts) (mv .letter)) ≡ countAfter n (mv .keeps) (mv .posts) = after-length (mv .keeps) (mv .posts) i n ls (mv .letter) (d .there) len in
       record {
         stepped-is = rw (f, e, c, d .count-is);
         sequencer-is = rw (f, e);
         table-is = rw (f, e, d .count-is) (sym (laid-is table (length table) n i (mv .keeps) (mv .posts) (mv .letter) (t .long) (t .long) (t .few) (d .there) (d .room (t .few))));
-        memories-is = rw (f, e) (d .memories-is);
+        memories-is = rw (f, e, kept) (d .memories-is);
       }
 
 -- ---- for every table
@@ -116,12 +119,12 @@ module _ (y : Yard) (q : Sequencer) (places : ℕ) (l : Letter) (m : List ℕ) (
   pub decides-unlent : (k : ℕ) → testNumber y places m ≡ k → (k ≡ 0 → ⊥) → Decides y q places l m s j (settling (refusing y q k) places 0) m
   decides-unlent k e z = record { settles = λ table p t. rw (← p) (settles-unlent y q table m s j k (rw p e) z) }
 
-  pub decides-decided : {mv : Moves} {after : List ℕ} → testNumber y places m ≡ 0 → Decided l (λ ls. step (worldOf y q ls m) s j) (y .count) (placeOf s) mv after
+  pub decides-decided : {mv : Moves} {after : List ℕ} → testNumber y places m ≡ 0 → Decided (shapeUnder (y .held)) l (λ ls. step (worldOf y q ls m) s j) (y .count) (placeOf s) mv after
       → Decides y q places l m s j (settling mv places (placeOf s)) after
   decides-decided z d = record { settles = λ table p t. rw (← p) (settles-decided y q table m s j (rw p z) t d) }
 
 -- the count fits a byte
-pub decided-small : {l : Letter} {rule : List Letter → Done} {n i : ℕ} {mv : Moves} {after : List ℕ} → Decided l rule n i mv after → n ≤ 32
+pub decided-small : {sh : Shape} {l : Letter} {rule : List Letter → Done} {n i : ℕ} {mv : Moves} {after : List ℕ} → Decided sh l rule n i mv after → n ≤ 32
     → countAfter (mv .yard .count) (mv .keeps) (mv .posts) ≤ 255
 decided-small {n = n} {mv = mv} d h =
     let k : countAfter n (mv .keeps) (mv .posts) ≤ 32 = d .room h in

@@ -68,7 +68,7 @@ module _ (y : Yard) (s : Sequencer) (c : ℕ) where
 
   module _ (j : Job) where
     abbrev pub number : ℕ
-    number = lowest (readyChecks known ++ (16 if leb 32 (y .count) ∷ jobChecks j))
+    number = lowest (readyChecks known ++ (16 if leb 32 (y .count) ∷ jobChecks j (y .held .shape)))
 
     pub begins-nobody : isClient c ≡ false → Moved (λ ls us. begins (worldWith y s ls us) c j) (y .count) 0 (refusing y s 17)
     unfolding begins beginNumber
@@ -90,13 +90,13 @@ module _ (y : Yard) (s : Sequencer) (c : ℕ) where
       one-more true n h = omega arith
       one-more false n h = omega arith
 
-      pub begins-turned : number ≡ 0 → Moved (λ ls us. begins (worldWith y s ls us) c j) (y .count) 0 (turning y s true c (beginTurn known j))
+      pub begins-turned : number ≡ 0 → Moved (λ ls us. begins (worldWith y s ls us) c j) (y .count) 0 (turning y s true c (beginTurn known j (y .held .shape)))
       unfolding begins beginNumber
       begins-turned z = record {
-        done-is = λ ls us e. rw (q, e, eq-eqb number 0 z) (turned-is y s ls us true 0 c (beginTurn known j));
+        done-is = λ ls us e. rw (q, e, eq-eqb number 0 z) (turned-is y s ls us true 0 c (beginTurn known j (y .held .shape)));
         count-is = refl;
         there = λ t. absurd (false-true (sym t));
-        room = λ l. one-more (sends (beginTurn known j .act)) (y .count) (full-not z);
+        room = λ l. one-more (sends (beginTurn known j (y .held .shape) .act)) (y .count) (full-not z);
       }
 
   -- ---- restart, give up

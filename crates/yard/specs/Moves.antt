@@ -5,6 +5,7 @@ use mathlib.Core.List.{List, [], _∷_, _++_}
 use mathlib.Core.Path.{_≡_}
 use lib.ListN.{length, getD, set}
 use Rattle.layout.specs.declared.Layout.{Layout}
+use Rattle.unit.specs.declared.shape.Shape.{Shape}
 use Rattle.unit.specs.State.{State}
 use Rattle.sequencer.specs.declared.Sequencer.{Sequencer}
 use Rattle.client.specs.declared.Query.{Query}
@@ -51,10 +52,10 @@ pub record Moved (rule : List Letter → List State → Done) (n i : ℕ) (m : M
   pub there : m .keeps ≡ false → i < n
   pub room : n ≤ letterLimit → countAfter n (m .keeps) (m .posts) ≤ letterLimit
 
--- the same where memories change too, and l is the letter at i, if there is one
-pub record Decided (l : Letter) (rule : List Letter → Done) (n i : ℕ) (m : Moves) (after : List ℕ) : Type 0 where
+-- the same where memories of the shape sh change too, and l is the letter at i, if there is one
+pub record Decided (sh : Shape) (l : Letter) (rule : List Letter → Done) (n i : ℕ) (m : Moves) (after : List ℕ) : Type 0 where
   pub units : List State
-  pub memories-is : after ≡ unitsBytes units
+  pub memories-is : after ≡ unitsBytes sh units
   pub done-is : (ls : List Letter) → length ls ≡ n → (i < n → getD ls i blankLetter ≡ l) → rule ls ≡ doneOf ls i m units
   pub count-is : m .yard .count ≡ n
   pub there : m .keeps ≡ false → i < n

@@ -3,6 +3,7 @@ ghost use mathlib.Core.Path.{_≡_};
 ghost use mathlib.Core.Bool.{true, _||_, not, cond};
 ghost use Prim.Native.Nat.{_≤_};
 ghost use Rattle.layout.specs.Value.{goodValue};
+ghost use Rattle.rule.specs.World.{shapeUnder};
 ghost use Rattle.rule.specs.Lent.{fetched, goodClients, goodUnits, testNumber};
 ghost use Rattle.rule.specs.Steps.{step};
 ghost use Rattle.yard.specs.Parts.{worldOf};
@@ -88,7 +89,7 @@ fn test_number(yard: Yard, places: usize, units: &[u8]) -> u8
 {
     let held = yard.held;
     let clients = yard.clients;
-    let memories = good_units(units);
+    let memories = good_units(units, held.shape);
     let layouts = is_good(held) & good_clients(clients);
     let table = pick(
         (places != 32) | (32 < yard.count),
@@ -119,8 +120,8 @@ pub(crate) fn place_of(s: Step) -> usize
 
 // The moves of a step over good memories; `l` is the letter at its place.
 fn chosen(yard: Yard, seq: Sequencer, l: Letter, units: &mut [u8], s: Step, job: Job) -> Moves
-    requires { ⌜ goodUnits 1 8 (now units) ≡ true ⌝ }
-    ensures { λ r. ⌜ Decided l (λ ls. step (worldOf yard seq ls (now (units .entry))) s job) (yard .count) (placeOf s) r (now (units .exit)) ⌝ }
+    requires { ⌜ goodUnits (yard .held .shape) 1 8 (now units) ≡ true ⌝ }
+    ensures { λ r. ⌜ Decided (shapeUnder (yard .held)) l (λ ls. step (worldOf yard seq ls (now (units .entry))) s job) (yard .count) (placeOf s) r (now (units .exit)) ⌝ }
 {
     match s {
         Step::Begin(c) => begins(yard, seq, c, job),

@@ -2,6 +2,7 @@
 ghost use mathlib.Core.Path.{_≡_};
 ghost use mathlib.Core.Bool.{Bool, true, false};
 ghost use Prim.Native.Nat.{ℕ, _<_};
+ghost use Rattle.rule.specs.World.{shapeUnder};
 ghost use Rattle.rule.specs.Lent.{goodUnits};
 ghost use Rattle.rule.specs.Serve.{unserved};
 ghost use Rattle.rule.specs.Steps.{delivered, delivers};
@@ -87,9 +88,9 @@ fn hands(
     l: Letter,
     ask: Ask,
 ) -> Moves
-    requires { ⌜ goodUnits 1 8 (now units) ≡ true ⌝ }
+    requires { ⌜ goodUnits (yard .held .shape) 1 8 (now units) ≡ true ⌝ }
     requires { ⌜ l .body ≡ Body.Asks ask ⌝ }
-    ensures { λ r. ⌜ ((i : ℕ) → i < yard .count → Decided l (λ ls. delivered (worldOf yard seq ls (now (units .entry))) i keeps «keeps_answer» l) (yard .count) i r (now (units .exit))) ⌝ }
+    ensures { λ r. ⌜ ((i : ℕ) → i < yard .count → Decided (shapeUnder (yard .held)) l (λ ls. delivered (worldOf yard seq ls (now (units .entry))) i keeps «keeps_answer» l) (yard .count) i r (now (units .exit))) ⌝ }
 {
     let stamp = l.stamp;
     let page = l.page;
@@ -141,8 +142,8 @@ pub(crate) fn delivers(
     keeps_answer: bool,
     l: Letter,
 ) -> Moves
-    requires { ⌜ goodUnits 1 8 (now units) ≡ true ⌝ }
-    ensures { λ r. ⌜ Decided l (λ ls. delivers (worldOf yard seq ls (now (units .entry))) i keeps «keeps_answer») (yard .count) i r (now (units .exit)) ⌝ }
+    requires { ⌜ goodUnits (yard .held .shape) 1 8 (now units) ≡ true ⌝ }
+    ensures { λ r. ⌜ Decided (shapeUnder (yard .held)) l (λ ls. delivers (worldOf yard seq ls (now (units .entry))) i keeps «keeps_answer») (yard .count) i r (now (units .exit)) ⌝ }
 {
     if yard.count <= i {
         return refused(yard, seq, Answer::NOBODY);

@@ -1,6 +1,9 @@
 // Making a fresh yard.
 ghost use mathlib.Core.Path.{_≡_};
+ghost use Prim.Native.Nat.{_≤_};
 ghost use lib.ListN.{length};
+ghost use Rattle.layout.specs.Lay.{lastShape};
+ghost use Rattle.unit.specs.Shape.{shapeFor};
 ghost use Rattle.rule.specs.Lent.{unitsBytes};
 ghost use Rattle.rule.specs.Fresh.{freshUnits, freshYard, freshNumberOf, IsMade};
 ghost use Rattle.yard.specs.Prepared.{IsPrepared};
@@ -22,17 +25,18 @@ pub(crate) struct Prepared {
     pub blanks: usize,
 }
 
-// Eight fresh units, from the last to the first.
-fn fresh_units(units: &mut [u8])
+// Eight fresh units of a shape that there is, from the last to the first.
+fn fresh_units(units: &mut [u8], shape: u8)
     requires { ⌜ length (now units) ≡ 49344 ⌝ }
-    ensures { λ _. ⌜ now (units .exit) ≡ unitsBytes (freshUnits 1 8) ⌝ }
+    requires { ⌜ shape ≤ lastShape ⌝ }
+    ensures { λ _. ⌜ now (units .exit) ≡ unitsBytes (shapeFor shape) (freshUnits 1 8) ⌝ }
 {
     let mut i: usize = 8;
     while 0 < i {
         i -= 1;
         let start = i * 6168;
         let end = start + 6168;
-        unit::fresh::fresh(&mut units[start..end], (i + 1) as u32);
+        unit::fresh::fresh(&mut units[start..end], (i + 1) as u32, shape);
     }
 }
 
@@ -77,7 +81,7 @@ pub(crate) fn prepare(held: Layout, seq: Sequencer, places: usize, units: &mut [
             blanks: 0,
         };
     }
-    fresh_units(units);
+    fresh_units(units, held.shape);
     let yard = fresh_yard(held);
     let made = Made { answer, yard };
     let sequencer = Sequencer::fresh();

@@ -4,6 +4,7 @@ ghost use mathlib.Core.Bool.{true, false};
 ghost use mathlib.Core.List.{[]};
 ghost use Rattle.layout.specs.Holder.{fetchedFrom, offeredTo};
 ghost use Rattle.sequencer.specs.Rules.{told, after};
+ghost use Rattle.rule.specs.World.{shapeUnder};
 ghost use Rattle.rule.specs.Lent.{goodUnits};
 ghost use Rattle.rule.specs.Serve.{saying, bare, telling, fetching, unserved, serve};
 ghost use Rattle.yard.specs.Parts.{worldOf, IsServed};
@@ -102,9 +103,9 @@ pub(crate) fn serve(
     page: Page,
     layout: Layout,
 ) -> Service
-    requires { ⌜ goodUnits 1 8 (now units) ≡ true ⌝ }
+    requires { ⌜ goodUnits (yard .held .shape) 1 8 (now units) ≡ true ⌝ }
     requires { ⌜ unserved (yard .stopped) ask ≡ false ⌝ }
-    ensures { λ r. ⌜ IsServed (serve (worldOf yard seq [] (now (units .entry))) ask page layout) r (now (units .exit)) ⌝ }
+    ensures { λ r. ⌜ IsServed (shapeUnder (yard .held)) (serve (worldOf yard seq [] (now (units .entry))) ask page layout) r (now (units .exit)) ⌝ }
 {
     let held = yard.held;
     match ask {

@@ -31,11 +31,11 @@ use sequencer::Sequencer;
 use sequencer::forget_step;
 
 // 18, 19, 16, 2 or 3, in this order.
-fn begin_number(client: Client, count: u8, job: Job) -> u8
-    ensures { λ r. ⌜ r ≡ lowest (readyChecks client ++ (16 if leb 32 count ∷ jobChecks job)) ⌝ }
+fn begin_number(client: Client, count: u8, job: Job, shape: u8) -> u8
+    ensures { λ r. ⌜ r ≡ lowest (readyChecks client ++ (16 if leb 32 count ∷ jobChecks job shape)) ⌝ }
 {
     let ready = ready_answer(client);
-    let asked = job_answer(job);
+    let asked = job_answer(job, shape);
     pick(
         ready != 0,
         ready,
@@ -51,11 +51,12 @@ pub(crate) fn begins(yard: Yard, seq: Sequencer, c: u8, job: Job) -> Moves
         return refused(yard, seq, Answer::NOBODY);
     }
     let client = client_of(yard, c);
-    let number = begin_number(client, yard.count, job);
+    let shape = yard.held.shape;
+    let number = begin_number(client, yard.count, job, shape);
     if number != 0 {
         return refused(yard, seq, number);
     }
-    let begun = begin(client, job);
+    let begun = begin(client, job, shape);
     let turn = begun.turn;
     turned(yard, seq, true, c, turn)
 }

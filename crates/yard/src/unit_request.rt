@@ -4,11 +4,12 @@ ghost use mathlib.Core.Bool.{true};
 ghost use Prim.Native.Nat.{_≤_};
 ghost use lib.ListN.{length, take};
 ghost use Rattle.layout.specs.Value.{padded};
-ghost use Rattle.unit.specs.Shape.{small};
-ghost use Rattle.unit.specs.Memory.{decode, encode, good as goodMemory};
+ghost use Rattle.unit.specs.Shape.{shapeOf};
+ghost use Rattle.client.specs.Message.{pageLimit};
+ghost use Rattle.unit.specs.Memory.{good as goodMemory};
 ghost use Rattle.unit.specs.Unit.{writeSays, writeUnit, trimSays, trimUnit, pruneSays, pruneUnit, sealUnit};
 ghost use Rattle.rule.specs.Serve.{saying, bare, kindOf, bytesOf, shown, edgeOr, edged};
-ghost use Rattle.yard.specs.Parts.{OnUnit, unitSays, unitAfter};
+ghost use Rattle.yard.specs.Parts.{heldIn, OnUnit, unitSays, unitAfter};
 use client::Ask;
 use client::Page;
 use client::Reply;
@@ -16,6 +17,7 @@ use client::Response;
 use layout::Layout;
 use num::Epoch;
 use num::Position;
+use num::answer::pick;
 use num::bytes::size;
 use unit::prune::prune;
 use unit::read::payload;
@@ -52,22 +54,26 @@ pub(crate) fn bare(reply: Reply) -> Response
 fn kind_of(page: Page) -> u8
     ensures { λ r. ⌜ r ≡ kindOf page ⌝ }
 {
-    if page.len <= 32 { page.kind } else { 0 }
+    pick(page.len <= Page::LARGE, page.kind, 0)
 }
 
 // How many of its bytes are offered.
 fn len_of(page: Page) -> usize
-    ensures { λ r. ⌜ (r ≤ 32) × (take r (page .bytes) ≡ bytesOf page) ⌝ }
+    ensures { λ r. ⌜ (r ≤ pageLimit) × (take r (page .bytes) ≡ bytesOf page) ⌝ }
 {
-    if page.len <= 32 { size(page.len) } else { 0 }
+    if page.len <= Page::LARGE {
+        size(page.len)
+    } else {
+        0
+    }
 }
 
 // The bytes in a page's array, and zeros behind them.
-fn padded_to(bytes: &[u8]) -> [u8; 32]
-    requires { ⌜ length (now bytes) ≤ 32 ⌝ }
-    ensures { λ r. ⌜ r ≡ padded 32 0 (now (bytes .entry)) ⌝ }
+fn padded_to(bytes: &[u8]) -> [u8; Page::ROOM]
+    requires { ⌜ length (now bytes) ≤ pageLimit ⌝ }
+    ensures { λ r. ⌜ r ≡ padded pageLimit 0 (now (bytes .entry)) ⌝ }
 {
-    let mut out = [0u8; 32];
+    let mut out = [0u8; Page::ROOM];
     let mut i = 0;
     while i < bytes.len() {
         out[i] = bytes[i];
@@ -77,10 +83,10 @@ fn padded_to(bytes: &[u8]) -> [u8; 32]
 }
 
 fn write_on(mem: &mut [u8], epoch: Epoch, p: Position, page: Page) -> Response
-    requires { ⌜ goodMemory small (now mem) ≡ true ⌝ }
-    ensures { λ r. ⌜ OnUnit
-        (bare (saying (writeSays small (decode small (now (mem .entry))) (epoch .0) (p .0) (kindOf page) (bytesOf page))))
-        (writeUnit small (decode small (now (mem .entry))) (epoch .0) (p .0) (kindOf page) (bytesOf page)) r (now (mem .exit)) ⌝ }
+    requires { ⌜ goodMemory (shapeOf (now mem)) (now mem) ≡ true ⌝ }
+    ensures { λ r. ⌜ OnUnit (shapeOf (now (mem .entry)))
+        (bare (saying (writeSays (shapeOf (now (mem .entry))) (heldIn (now (mem .entry))) (epoch .0) (p .0) (kindOf page) (bytesOf page))))
+        (writeUnit (shapeOf (now (mem .entry))) (heldIn (now (mem .entry))) (epoch .0) (p .0) (kindOf page) (bytesOf page)) r (now (mem .exit)) ⌝ }
 {
     let bytes = page.bytes;
     let kind = kind_of(page);
@@ -90,17 +96,20 @@ fn write_on(mem: &mut [u8], epoch: Epoch, p: Position, page: Page) -> Response
 }
 
 fn trim_on(mem: &mut [u8], epoch: Epoch, p: Position) -> Response
-    requires { ⌜ goodMemory small (now mem) ≡ true ⌝ }
-    ensures { λ r. ⌜ OnUnit (bare (saying (trimSays small (decode small (now (mem .entry))) (epoch .0) (p .0))))
-        (trimUnit small (decode small (now (mem .entry))) (epoch .0) (p .0)) r (now (mem .exit)) ⌝ }
+    requires { ⌜ goodMemory (shapeOf (now mem)) (now mem) ≡ true ⌝ }
+    ensures { λ r. ⌜ OnUnit (shapeOf (now (mem .entry)))
+        (bare (saying (trimSays (shapeOf (now (mem .entry))) (heldIn (now (mem .entry))) (epoch .0) (p .0))))
+        (trimUnit (shapeOf (now (mem .entry))) (heldIn (now (mem .entry))) (epoch .0) (p .0)) r (now (mem .exit)) ⌝ }
 {
     let number = trim(mem, epoch, p);
     bare(saying(number))
 }
 
 fn prune_on(mem: &mut [u8], epoch: Epoch, p: Position) -> Response
-    requires { ⌜ goodMemory small (now mem) ≡ true ⌝ }
-    ensures { λ r. ⌜ OnUnit (bare (saying (pruneSays (decode small (now (mem .entry))) (epoch .0) (p .0)))) (pruneUnit (decode small (now (mem .entry))) (epoch .0) (p .0)) r (now (mem .exit)) ⌝ }
+    requires { ⌜ goodMemory (shapeOf (now mem)) (now mem) ≡ true ⌝ }
+    ensures { λ r. ⌜ OnUnit (shapeOf (now (mem .entry)))
+        (bare (saying (pruneSays (heldIn (now (mem .entry))) (epoch .0) (p .0))))
+        (pruneUnit (heldIn (now (mem .entry))) (epoch .0) (p .0)) r (now (mem .exit)) ⌝ }
 {
     let number = prune(mem, epoch, p);
     bare(saying(number))
@@ -118,8 +127,10 @@ fn edge_or(answer: u8, edge: u64) -> Reply
 }
 
 fn seal_on(mem: &mut [u8], epoch: Epoch) -> Response
-    requires { ⌜ goodMemory small (now mem) ≡ true ⌝ }
-    ensures { λ r. ⌜ OnUnit (bare (edged (decode small (now (mem .entry))) (epoch .0))) (sealUnit (decode small (now (mem .entry))) (epoch .0)) r (now (mem .exit)) ⌝ }
+    requires { ⌜ goodMemory (shapeOf (now mem)) (now mem) ≡ true ⌝ }
+    ensures { λ r. ⌜ OnUnit (shapeOf (now (mem .entry)))
+        (bare (edged (heldIn (now (mem .entry))) (epoch .0)))
+        (sealUnit (heldIn (now (mem .entry))) (epoch .0)) r (now (mem .exit)) ⌝ }
 {
     let sealed = seal(mem, epoch);
     bare(edge_or(sealed.answer, sealed.edge))
@@ -127,8 +138,8 @@ fn seal_on(mem: &mut [u8], epoch: Epoch) -> Response
 
 // The page of a position, or a refusal.
 fn read_on(mem: &[u8], epoch: Epoch, p: Position) -> Response
-    requires { ⌜ goodMemory small (now mem) ≡ true ⌝ }
-    ensures { λ r. ⌜ r ≡ shown (decode small (now (mem .entry))) (epoch .0) (p .0) ⌝ }
+    requires { ⌜ goodMemory (shapeOf (now mem)) (now mem) ≡ true ⌝ }
+    ensures { λ r. ⌜ r ≡ shown (heldIn (now (mem .entry))) (epoch .0) (p .0) ⌝ }
 {
     let seen = read(mem, epoch, p);
     if seen.answer != 0 {
@@ -151,8 +162,10 @@ fn read_on(mem: &[u8], epoch: Epoch, p: Position) -> Response
 
 // Whatever a unit is asked.
 pub(crate) fn ask_unit(mem: &mut [u8], ask: Ask, page: Page) -> Response
-    requires { ⌜ goodMemory small (now mem) ≡ true ⌝ }
-    ensures { λ r. ⌜ OnUnit (unitSays (decode small (now (mem .entry))) ask page) (unitAfter (decode small (now (mem .entry))) ask page) r (now (mem .exit)) ⌝ }
+    requires { ⌜ goodMemory (shapeOf (now mem)) (now mem) ≡ true ⌝ }
+    ensures { λ r. ⌜ OnUnit (shapeOf (now (mem .entry)))
+        (unitSays (shapeOf (now (mem .entry))) (heldIn (now (mem .entry))) ask page)
+        (unitAfter (shapeOf (now (mem .entry))) (heldIn (now (mem .entry))) ask page) r (now (mem .exit)) ⌝ }
 {
     match ask {
         Ask::Write(_, epoch, p) => write_on(mem, epoch, p, page),

@@ -1,12 +1,11 @@
 // The eight unit memories, lent as one.
 ghost use mathlib.Core.Path.{_≡_};
-ghost use mathlib.Core.Bool.{true, _&&_};
+ghost use mathlib.Core.Bool.{true};
 ghost use Prim.Native.Nat.{_+_, _-_, _*_, _≤_};
-ghost use lib.Dec.{eqb};
-ghost use Rattle.unit.specs.Shape.{small};
-ghost use Rattle.unit.specs.Memory.{numberOf, good as goodMemory};
+ghost use Rattle.unit.specs.Shape.{shapeOf};
+ghost use Rattle.unit.specs.Memory.{codeOf};
 ghost use Rattle.rule.specs.World.{isUnit};
-ghost use Rattle.rule.specs.Lent.{goodUnits};
+ghost use Rattle.rule.specs.Lent.{goodUnit, goodUnits};
 ghost use Rattle.yard.specs.Parts.{unitOf, unitSays, unitAfter, AtUnit};
 use crate::unit_request::ask_unit;
 use client::Ask;
@@ -16,16 +15,16 @@ use num::bytes::number_at;
 use num::bytes::size;
 use unit::memory::is_good;
 
-// Whether a memory is good and of its number.
-fn good_unit(mem: &[u8], number: u64) -> bool
-    ensures { λ r. ⌜ r ≡ (goodMemory small (now (mem .entry)) && eqb (numberOf (now (mem .entry))) number) ⌝ }
+// Whether a memory is good, of its number and of the yard's shape.
+fn good_unit(mem: &[u8], number: u64, shape: u8) -> bool
+    ensures { λ r. ⌜ r ≡ goodUnit shape number (now (mem .entry)) ⌝ }
 {
-    is_good(mem) & (number_at(mem, 0, 4) == number)
+    is_good(mem) & (number_at(mem, 0, 1) == number) & (number_at(mem, 1, 1) == shape as u64)
 }
 
-// Whether each memory is good and of its number.
-pub(crate) fn good_units(units: &[u8]) -> bool
-    ensures { λ r. ⌜ r ≡ goodUnits 1 8 (now (units .entry)) ⌝ }
+// Whether each memory is.
+pub(crate) fn good_units(units: &[u8], shape: u8) -> bool
+    ensures { λ r. ⌜ r ≡ goodUnits shape 1 8 (now (units .entry)) ⌝ }
 {
     if units.len() != 49344 {
         return false;
@@ -34,7 +33,7 @@ pub(crate) fn good_units(units: &[u8]) -> bool
     while i < 8 {
         let start = i * 6168;
         let end = start + 6168;
-        if !good_unit(&units[start..end], (i + 1) as u64) {
+        if !good_unit(&units[start..end], (i + 1) as u64, shape) {
             return false;
         }
         i += 1;
@@ -50,11 +49,13 @@ fn start_of(u: u8) -> usize
     (size(u) - 1) * 6168
 }
 
-// A request at the unit `u`.
+// A request at the unit `u`, of the shape that the first memory names.
 pub(crate) fn at_unit(units: &mut [u8], u: u8, ask: Ask, page: Page) -> Response
-    requires { ⌜ goodUnits 1 8 (now units) ≡ true ⌝ }
+    requires { ⌜ goodUnits (codeOf (now units)) 1 8 (now units) ≡ true ⌝ }
     requires { ⌜ isUnit u ≡ true ⌝ }
-    ensures { λ r. ⌜ AtUnit (now (units .entry)) u (unitSays (unitOf (now (units .entry)) u) ask page) (unitAfter (unitOf (now (units .entry)) u) ask page) r (now (units .exit)) ⌝ }
+    ensures { λ r. ⌜ AtUnit (shapeOf (now (units .entry))) (now (units .entry)) u
+        (unitSays (shapeOf (now (units .entry))) (unitOf (shapeOf (now (units .entry))) (now (units .entry)) u) ask page)
+        (unitAfter (shapeOf (now (units .entry))) (unitOf (shapeOf (now (units .entry))) (now (units .entry)) u) ask page) r (now (units .exit)) ⌝ }
 {
     let start = start_of(u);
     let end = start + 6168;

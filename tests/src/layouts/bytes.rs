@@ -1,4 +1,4 @@
-//! A layout as bytes: sections in fixed order, each after its one-byte count.
+//! A layout as bytes: epoch, the yard's shape, and then sections in fixed order, each after its one-byte count.
 
 use crate::layouts::layout::{Layout, Range, Set};
 
@@ -14,6 +14,7 @@ pub fn print_sets(sets: &[Set]) -> Vec<u8> {
 /// The bytes of a layout, good or not: `units` is what its unit section says.
 pub fn print_with(layout: &Layout, units: &[u8]) -> Vec<u8> {
     let mut bytes = layout.epoch.to_le_bytes().to_vec();
+    bytes.push(layout.shape);
     bytes.push(units.len() as u8);
     bytes.extend(units);
     bytes.extend(print_sets(&layout.sets));
@@ -67,10 +68,11 @@ impl<'a> Reader<'a> {
 pub fn parse(bytes: &[u8]) -> Option<Layout> {
     let mut reader = Reader { left: bytes };
     let epoch = u32::from_le_bytes(reader.bytes(4)?.try_into().ok()?);
+    let shape = reader.byte()?;
     let units = reader.counted()?;
     let sets = reader.sets()?;
     let ranges = (0..reader.byte()?).map(|_| reader.range()).collect::<Option<Vec<_>>>()?;
-    let layout = Layout { epoch, sets, ranges };
+    let layout = Layout { epoch, shape, sets, ranges };
     let named: Vec<u8> = layout.units().into_iter().collect();
     (reader.left.is_empty() && units == named && layout.good()).then_some(layout)
 }

@@ -2,7 +2,7 @@
 
 use crate::layouts::bytes::{print, print_sets, print_with};
 use crate::layouts::compare::Call;
-use crate::layouts::layout::{Layout, Range, Set, POSITIONS, RANGES, SETS, SET_UNITS, UNITS};
+use crate::layouts::layout::{Layout, Range, Set, BYTES, POSITIONS, RANGES, SETS, SET_UNITS, SHAPES, UNITS};
 use crate::random::Random;
 
 pub fn set(random: &mut Random) -> Set {
@@ -51,7 +51,8 @@ pub fn layout(random: &mut Random) -> Layout {
     if largest {
         sets[0] = vec![2, 4, 5, 7];
     }
-    Layout { epoch, sets, ranges }
+    let shape = random.below(SHAPES.into()) as u8;
+    Layout { epoch, shape, sets, ranges }
 }
 
 /// One thing in the bytes is changed, left out or put in.
@@ -73,20 +74,21 @@ pub fn bend(random: &mut Random, layout: &mut Layout) {
     let which = random.below(layout.sets.len() as u64) as usize;
     let range = random.below(layout.ranges.len() as u64) as usize;
     let unit = random.below(u64::from(UNITS) + 2) as u8;
-    match random.below(14) {
+    match random.below(15) {
         0 => layout.epoch = random.one_of(&[0, 1, layout.epoch.wrapping_add(1), layout.epoch.wrapping_sub(1)]),
-        1 => layout.sets[which].push(unit),
-        2 => drop(layout.sets[which].pop()),
-        3 => layout.sets[which].insert(0, unit),
-        4 => layout.sets[which].reverse(),
-        5 => layout.sets[which] = set(random),
-        6 => drop(layout.sets.remove(which)),
-        7 => layout.sets.insert(which, set(random)),
-        8 => layout.ranges[range].uses = layout.ranges[range].uses.wrapping_add(random.one_of(&[1, 255])),
-        9 => layout.ranges[range].start = random.one_of(&[0, 1, 10, POSITIONS - 1, POSITIONS, layout.last_start()]),
-        10 => layout.ranges[range].start = layout.ranges[range].start.wrapping_add(random.one_of(&[1, u64::MAX])),
-        11 => layout.ranges.push(Range { start: layout.last_start() + random.below(2), uses: 1 }),
-        12 => {
+        1 => layout.shape = random.one_of(&[0, 1, SHAPES, u8::MAX]),
+        2 => layout.sets[which].push(unit),
+        3 => drop(layout.sets[which].pop()),
+        4 => layout.sets[which].insert(0, unit),
+        5 => layout.sets[which].reverse(),
+        6 => layout.sets[which] = set(random),
+        7 => drop(layout.sets.remove(which)),
+        8 => layout.sets.insert(which, set(random)),
+        9 => layout.ranges[range].uses = layout.ranges[range].uses.wrapping_add(random.one_of(&[1, 255])),
+        10 => layout.ranges[range].start = random.one_of(&[0, 1, 10, POSITIONS - 1, POSITIONS, layout.last_start()]),
+        11 => layout.ranges[range].start = layout.ranges[range].start.wrapping_add(random.one_of(&[1, u64::MAX])),
+        12 => layout.ranges.push(Range { start: layout.last_start() + random.below(2), uses: 1 }),
+        13 => {
             layout.ranges.push(Range { start: layout.last_start() + 1, uses: 1 });
             layout.sets.push(set(random));
         }
@@ -180,7 +182,7 @@ pub fn plan(random: &mut Random) -> (Call, usize) {
     let far = random.next();
     let low = random.below(100);
     let edge = random.one_of(&[0, low, low, near_end, far, u64::MAX]);
-    let room = if random.chance(300) { held.len() - held.len().min(5) + random.below(20) as usize } else { 167 };
+    let room = if random.chance(300) { held.len() - held.len().min(5) + random.below(20) as usize } else { BYTES };
     let sets = new_sets(random);
     let mut drops = drops(random);
     if random.chance(100) && sets.len() > 60 {

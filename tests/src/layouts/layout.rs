@@ -8,6 +8,12 @@ pub const SET_UNITS: usize = 4;
 pub const SETS: usize = 16;
 pub const RANGES: usize = 8;
 
+/// The kinds of units that a yard may have: 0 small, 1 large.
+pub const SHAPES: u8 = 2;
+
+/// The bytes of the largest layout: epoch, shape, units, sets and ranges.
+pub const BYTES: usize = 4 + 1 + (1 + UNITS as usize) + (1 + SETS * (1 + SET_UNITS)) + (1 + RANGES * 9);
+
 pub type Set = Vec<u8>;
 
 #[derive(Clone, Debug, PartialEq, Eq)]
@@ -19,6 +25,7 @@ pub struct Range {
 #[derive(Clone, Debug, PartialEq, Eq)]
 pub struct Layout {
     pub epoch: u32,
+    pub shape: u8,
     pub sets: Vec<Set>,
     pub ranges: Vec<Range>,
 }
@@ -42,6 +49,7 @@ impl Layout {
         let starts: Vec<u64> = self.ranges.iter().map(|range| range.start).collect();
         let used: usize = self.ranges.iter().map(|range| usize::from(range.uses)).sum();
         self.epoch >= 1
+            && self.shape < SHAPES
             && (1..=SETS).contains(&self.sets.len())
             && (1..=RANGES).contains(&self.ranges.len())
             && self.sets.iter().all(|set| good_set(set))

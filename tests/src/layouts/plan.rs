@@ -29,5 +29,5 @@ pub fn plan(held: &Layout, drops: &[u8], sets: Option<&[Set]>, edge: u64) -> Res
         ranges.push(Range { start, uses: new.len() as u8 });
         sets.extend(new.iter().cloned());
     }
-    Ok(Layout { epoch, sets, ranges })
+    Ok(Layout { epoch, shape: held.shape, sets, ranges })
 }

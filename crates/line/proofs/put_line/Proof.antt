@@ -13,7 +13,7 @@ use Rattle.line.proofs.put_line.Tie as tie
 short : (c : tie.Start) → length (lineOf (c .args .number) (c .args .answer) (c .args .who) (c .args .outcome)) ≤ 256
 short c =
     let o = c .args .outcome in
-    let room : length (o .page .bytes) ≡ 32 = simp length-map at (c .good .1 .1 .1 .1 .1 .0 .1 .1 .1 .1 .1 .0 .1 .1 .1 .1 .0 .1 .0 .1) in
+    let room : length (o .page .bytes) ≡ 80 = simp length-map at (c .good .1 .1 .1 .1 .1 .0 .1 .1 .1 .1 .1 .0 .1 .1 .1 .1 .0 .1 .0 .1) in
     let bounded : Bounded o = record { number = omega arith; position = omega arith; epoch = omega arith; kind = omega arith; bytes = omega arith } in
     line-few (c .args .who) o (omega arith) bounded (c .args .number) (c .args .answer) (omega arith) (omega arith)
 

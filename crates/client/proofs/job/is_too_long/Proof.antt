@@ -6,6 +6,9 @@ use Rattle.client.proofs.job.is_too_long.Tie as tie
 enum-told : tie.Need-enum-told
 enum-told c = search needs
 
+data-limit-requires : tie.Need-data-limit-requires
+data-limit-requires c κs = search needs
+
 enum-told-2 : tie.Need-enum-told-2
 enum-told-2 c = search needs
 
@@ -22,7 +25,7 @@ enum-told-6 : tie.Need-enum-told-6
 enum-told-6 c = search needs
 
 returns : tie.Need-returns
-returns c = rw (c .enum-told .given .1)
+returns c = rw (c .data-limit .ensures, c .before .enum-told .given .1)
 
 returns-2 : tie.Need-returns-2
 returns-2 c = search needs
@@ -44,6 +47,7 @@ is-too-long-spec =
     tie.close
     (tie.spec
     enum-told
+    data-limit-requires
     enum-told-2
     enum-told-3
     enum-told-4

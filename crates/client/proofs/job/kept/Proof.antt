@@ -5,18 +5,19 @@ use Prim.Native.Nat.{_≤_, _-_}
 use mathlib.Core.Path.{_≡_}
 use native.Mathlib.Omega.{arith}
 use Rattle.layout.specs.Value.{padded}
+use Rattle.client.specs.Message.{pageLimit}
 use Rattle.client.proofs.Pages.{kept-none, kept-more}
 use Rattle.client.proofs.job.kept.Statement.{statement}
 use Rattle.client.proofs.job.kept.Tie as tie
 
 abbrev Inv-loop : tie.InvT-loop
-Inv-loop count bytes out₀ i₀ out i = (i ≤ count) × (out ≡ padded 32 0 (take i bytes))
+Inv-loop count bytes out₀ i₀ out i = (i ≤ count) × (out ≡ padded pageLimit 0 (take i bytes))
 
 abbrev μ-loop : tie.MeasureT-loop
 μ-loop count bytes out₀ i₀ out i = count - i
 
 loop-holds : tie.Need-loop-holds Inv-loop μ-loop
-loop-holds c = (omega arith, kept-none 32)
+loop-holds c = (omega arith, kept-none pageLimit)
 
 array-read-out : tie.Need-array-read-out Inv-loop μ-loop
 array-read-out c = omega arith
@@ -32,8 +33,8 @@ loop-less c = omega arith
 
 loop-again : tie.Need-loop-again Inv-loop μ-loop
 loop-again c =
-    let long : length (c .before .before .args .t1) ≡ 32 = c .before .before .good .0 .1 .0 .1 in
-    (omega arith, rw (c .before .loop .inv .1, add-one) (kept-more 32 (c .before .loop .i) (c .before .before .args .t1) (omega arith) (omega arith)))
+    let long : length (c .before .before .args .t1) ≡ pageLimit = c .before .before .good .0 .1 .0 .1 in
+    (omega arith, rw (c .before .loop .inv .1, add-one) (kept-more pageLimit (c .before .loop .i) (c .before .before .args .t1) (omega arith) (omega arith)))
 
 returns : tie.Need-returns Inv-loop μ-loop
 returns c =

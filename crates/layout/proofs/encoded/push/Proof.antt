@@ -1,6 +1,7 @@
 use native.Mathlib.Omega.{arith}
 use mathlib.Core.Path.{_≡_}
 use lib.ListN.{length, length-map}
+use Rattle.layout.specs.Codec.{sizeLimit}
 use Rattle.layout.proofs.Growing.{pushed, pushed-past}
 use borrow.Author.Needs.{needs}
 use Rattle.layout.proofs.encoded.push.Statement.{statement}
@@ -18,7 +19,7 @@ returns c = pushed (c .before .args .t1) (c .before .args .b)
 returns-2 : tie.Need-returns-2
 returns-2 c =
     let e = c .before .args .t1 in
-    let room : length (e .bytes) ≡ 167 = simp length-map at (c .before .good .0 .1 .1 .0 .1 .0 .1) in
+    let room : length (e .bytes) ≡ sizeLimit = simp length-map at (c .before .good .0 .1 .1 .0 .1 .0 .1) in
     pushed-past e (c .before .args .b) (omega arith)
 
 pub push-spec : {M : Type 1} → statement M

@@ -49,7 +49,7 @@ loop-again : tie.Need-loop-again Inv-loop μ-loop
 loop-again c =
     let l = c .before .before .before in
     let s = l .before .before .before in
-    let room : length (s .args .t2 .ranges) ≡ 8 = simp length-map at (s .good .1 .0 .1 .1 .1 .1 .1 .1 .0 .1 .0 .1) in
+    let room : length (s .args .t2 .ranges) ≡ 8 = simp length-map at (s .good .1 .0 .1 .1 .1 .1 .1 .1 .1 .0 .1 .0 .1) in
     (omega arith, put-span (s .args .t2 .«range_count») (s .args .t2 .ranges) (l .loop .i) _ (c .push-range .result) _ (l .loop .inv .1) (omega arith) (omega arith) (c .push-range .ensures .0) (omega arith))
 
 returns : tie.Need-returns Inv-loop μ-loop
@@ -57,7 +57,7 @@ unfolding layOf
 returns c =
     let l = c .before in
     let s = l .before .before .before in
-    let room : length (s .args .t2 .ranges) ≡ 8 = simp length-map at (s .good .1 .0 .1 .1 .1 .1 .1 .1 .0 .1 .0 .1) in
+    let room : length (s .args .t2 .ranges) ≡ 8 = simp length-map at (s .good .1 .0 .1 .1 .1 .1 .1 .1 .1 .0 .1 .0 .1) in
     let all = spans-put (s .args .t2 .«range_count») 8 (s .args .t2 .ranges) (l .loop .i) (l .loop .inv .1) room (omega arith) in
     let count : l .before .before .clip .result ≡ length (map spanIn (take (s .args .t2 .«range_count») (s .args .t2 .ranges))) = l .before .before .clip .ensures ∙ sym (front-length spanIn (s .args .t2 .«range_count») (s .args .t2 .ranges) ∙ rw room) in
     (section-put (s .args .e) (l .before .push .result) (l .loop .out) _ _ _ (l .before .push .ensures) all count, omega (arith, grown-count _ _ _ (l .before .push .ensures)))

@@ -38,14 +38,14 @@ loop-less c = omega arith
 loop-again : tie.Need-loop-again Inv-loop μ-loop
 loop-again c =
     let l = c .before .before .before in
-    let room : length (l .before .before .args .t1 .sets) ≡ 16 = simp length-map at (l .before .before .good .0 .1 .1 .1 .1 .0 .1 .0 .1) in
+    let room : length (l .before .before .args .t1 .sets) ≡ 16 = simp length-map at (l .before .before .good .0 .1 .1 .1 .1 .1 .0 .1 .0 .1) in
     chains-more (l .loop .inv) _ (c .good-chain .result) (omega arith) (c .good-chain .ensures)
 
 returns : tie.Need-returns Inv-loop μ-loop
 unfolding layOf
 returns c =
     let l = c .before in
-    let room : length (l .before .before .args .t1 .sets) ≡ 16 = simp length-map at (l .before .before .good .0 .1 .1 .1 .1 .0 .1 .0 .1) in
+    let room : length (l .before .before .args .t1 .sets) ≡ 16 = simp length-map at (l .before .before .good .0 .1 .1 .1 .1 .1 .0 .1 .0 .1) in
     rw (l .before .size .ensures .0) at (chains-all (l .loop .inv) (omega arith))
 
 pub good-chains-spec : {M : Type 1} → statement M

@@ -30,7 +30,7 @@ returns c =
     let l = s .args .t1 in
     rw (c .sets-used .ensures, c .before .good-ranges .ensures, c .before .before .good-chains .ensures)
     (rw (c .before .before .before .before .before .size2 .ensures .0, c .before .before .before .before .before .before .size .ensures .0)
-    (decided l noRange (simp length-map at (s .good .0 .1 .1 .1 .1 .0 .1 .0 .1)) (simp length-map at (s .good .0 .1 .1 .1 .1 .1 .1 .0 .1 .0 .1)) (omega arith)))
+    (decided l noRange (simp length-map at (s .good .0 .1 .1 .1 .1 .1 .0 .1 .0 .1)) (simp length-map at (s .good .0 .1 .1 .1 .1 .1 .1 .1 .0 .1 .0 .1)) (omega arith)))
 
 pub is-good-spec : {M : Type 1} → statement M
 is-good-spec =

@@ -44,14 +44,14 @@ loop-less c = omega arith
 loop-again : tie.Need-loop-again Inv-loop μ-loop
 loop-again c =
     let l = c .before .before .before .before in
-    let room : length (l .before .before .args .t1 .ranges) ≡ 8 = simp length-map at (l .before .before .good .0 .1 .1 .1 .1 .1 .1 .0 .1 .0 .1) in
+    let room : length (l .before .before .args .t1 .ranges) ≡ 8 = simp length-map at (l .before .before .good .0 .1 .1 .1 .1 .1 .1 .1 .0 .1 .0 .1) in
     uses-more (l .loop .inv) _ (c .size2 .result) (omega arith) (omega arith) (c .size2 .ensures .0 ∙ c .before .pick .ensures)
 
 returns : tie.Need-returns Inv-loop μ-loop
 unfolding layOf
 returns c =
     let l = c .before in
-    let room : length (l .before .before .args .t1 .ranges) ≡ 8 = simp length-map at (l .before .before .good .0 .1 .1 .1 .1 .1 .1 .0 .1 .0 .1) in
+    let room : length (l .before .before .args .t1 .ranges) ≡ 8 = simp length-map at (l .before .before .good .0 .1 .1 .1 .1 .1 .1 .1 .0 .1 .0 .1) in
     rw (l .before .size .ensures .0) at (uses-all (l .loop .inv) (omega arith))
 
 pub sets-used-spec : {M : Type 1} → statement M

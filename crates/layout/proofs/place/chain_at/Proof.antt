@@ -10,7 +10,7 @@ use Rattle.layout.proofs.place.chain_at.Statement.{statement}
 use Rattle.layout.proofs.place.chain_at.Tie as tie
 
 room : (c : tie.Start) → length (c .args .t1 .sets) ≡ 16
-room c = simp length-map at (c .good .0 .1 .1 .1 .1 .0 .1 .0 .1)
+room c = simp length-map at (c .good .0 .1 .1 .1 .1 .1 .0 .1 .0 .1)
 
 fine : (c : tie.Then1) → Stands (c .before .before .args .t1) (c .before .before .args .p .0)
 fine c = place-fine _ _ (sym (c .before .answer-at .ensures) ∙ c .if1 .taken)

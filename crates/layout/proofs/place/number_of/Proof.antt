@@ -19,7 +19,7 @@ abbrev μ-loop : tie.MeasureT-loop
 μ-loop l at n before₀ found₀ i₀ before found i = n - i
 
 eight : (c : tie.Start Inv-loop μ-loop) → length (c .args .t1 .ranges) ≡ 8
-eight c = simp length-map at (c .good .0 .1 .1 .1 .1 .1 .1 .0 .1 .0 .1)
+eight c = simp length-map at (c .good .0 .1 .1 .1 .1 .1 .1 .1 .0 .1 .0 .1)
 
 clip-requires : tie.Need-clip-requires Inv-loop μ-loop
 clip-requires c κs = tt

@@ -7,7 +7,7 @@ use Rattle.layout.proofs.place.set_of.Statement.{statement}
 use Rattle.layout.proofs.place.set_of.Tie as tie
 
 room : (c : tie.Start) → length (c .args .l .sets) ≡ 16
-room c = simp length-map at (c .good .0 .1 .1 .1 .1 .0 .1 .0 .1)
+room c = simp length-map at (c .good .0 .1 .1 .1 .1 .1 .0 .1 .0 .1)
 
 fine : (c : tie.Then1) → Stands (c .before .before .args .l) (c .before .before .args .p .0)
 fine c = place-fine _ _ (sym (c .before .answer-at .ensures) ∙ c .if1 .taken)

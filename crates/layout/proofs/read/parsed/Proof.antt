@@ -35,6 +35,9 @@ sets-from-requires c κs = search needs
 byte-at-requires-3 : tie.Need-byte-at-requires-3
 byte-at-requires-3 c κs = search needs
 
+byte-at-requires-4 : tie.Need-byte-at-requires-4
+byte-at-requires-4 c κs = search needs
+
 add-ranges-from : tie.Need-add-ranges-from
 add-ranges-from c = search needs
 
@@ -49,12 +52,13 @@ returns c =
     let r = c .before .before .before in
     let t = r .before .before in
     let e = t .before .before in
-    let s = e .before .before .before .before .before in
+    let h = e .before .before .before in
+    let s = h .before .before .before in
     let n = t .before .size2 .ensures .0 in
-    parsed-is (s .args .b .now) (e .before .before .before .number-at .result) (e .before .size .result) (e .byte-at2 .result) (5 + e .before .size .result)
-    (t .sets-from .result .sets) (t .sets-from .result .past) (r .byte-at3 .result) (c .before .ranges-from .result .ranges)
-    (e .before .before .before .number-at .ensures) (e .before .size .ensures .0 ∙ e .before .before .byte-at .ensures) refl (e .byte-at2 .ensures)
-    (rw n at (t .sets-from .ensures .0)) (rw n at (t .sets-from .ensures .1 .0)) (r .byte-at3 .ensures)
+    parsed-is (s .args .b .now) (h .before .number-at .result) (h .byte-at .result) (e .before .size .result) (e .byte-at3 .result) (6 + e .before .size .result)
+    (t .sets-from .result .sets) (t .sets-from .result .past) (r .byte-at4 .result) (c .before .ranges-from .result .ranges)
+    (h .before .number-at .ensures) (h .byte-at .ensures) (e .before .size .ensures .0 ∙ e .before .before .byte-at2 .ensures) refl (e .byte-at3 .ensures)
+    (rw n at (t .sets-from .ensures .0)) (rw n at (t .sets-from .ensures .1 .0)) (r .byte-at4 .ensures)
     (rw (c .before .before .size3 .ensures .0) at (c .before .ranges-from .ensures))
 
 pub parsed-spec : {M : Type 1} → statement M
@@ -64,13 +68,14 @@ parsed-spec =
     number-at-requires
     cast-epoch
     byte-at-requires
+    byte-at-requires-2
     size-requires
     add-at
-    byte-at-requires-2
+    byte-at-requires-3
     add-sets-from
     size-requires-2
     sets-from-requires
-    byte-at-requires-3
+    byte-at-requires-4
     add-ranges-from
     size-requires-3
     ranges-from-requires

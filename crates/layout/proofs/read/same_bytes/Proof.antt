@@ -2,6 +2,7 @@ use Prim.Native.Nat.{_-_}
 use native.Mathlib.Omega.{arith}
 use mathlib.Core.Path.{_≡_}
 use lib.ListN.{length, length-map, length-take}
+use Rattle.layout.specs.Codec.{sizeLimit}
 use Rattle.layout.proofs.Same.{same-not, SameSeen, same-none, same-more, same-all}
 use Rattle.layout.proofs.read.same_bytes.Statement.{statement}
 use Rattle.layout.proofs.read.same_bytes.Tie as tie
@@ -15,7 +16,7 @@ abbrev μ-loop : tie.MeasureT-loop
 returns : tie.Need-returns Inv-loop μ-loop
 returns c =
     let s = c .before in
-    let room : length (s .args .t1 .bytes) ≡ 167 = simp length-map at (s .good .0 .1 .1 .0 .1 .0 .1) in
+    let room : length (s .args .t1 .bytes) ≡ sizeLimit = simp length-map at (s .good .0 .1 .1 .0 .1 .0 .1) in
     same-not _ _ (λ e. omega (arith, e, length-take (s .args .t1 .count) (s .args .t1 .bytes)))
 
 loop-holds : tie.Need-loop-holds Inv-loop μ-loop
@@ -37,7 +38,7 @@ loop-again : tie.Need-loop-again Inv-loop μ-loop
 loop-again c =
     let l = c .before .before .before in
     let s = l .before .before in
-    let room : length (s .args .t1 .bytes) ≡ 167 = simp length-map at (s .good .0 .1 .1 .0 .1 .0 .1) in
+    let room : length (s .args .t1 .bytes) ≡ sizeLimit = simp length-map at (s .good .0 .1 .1 .0 .1 .0 .1) in
     same-more (l .loop .inv) (omega arith) (omega arith) (omega arith)
 
 returns-2 : tie.Need-returns-2 Inv-loop μ-loop

@@ -17,10 +17,10 @@ abbrev μ-loop : tie.MeasureT-loop
 μ-loop old new a b ok₀ i₀ ok i = a - i
 
 room : (c : tie.Start Inv-loop μ-loop) → length (c .args .t1 .sets) ≡ 16
-room c = simp length-map at (c .good .0 .1 .1 .1 .1 .0 .1 .0 .1)
+room c = simp length-map at (c .good .0 .1 .1 .1 .1 .1 .0 .1 .0 .1)
 
 room-new : (c : tie.Start Inv-loop μ-loop) → length (c .args .t2 .sets) ≡ 16
-room-new c = simp length-map at (c .good .1 .0 .1 .1 .1 .1 .0 .1 .0 .1)
+room-new c = simp length-map at (c .good .1 .0 .1 .1 .1 .1 .1 .0 .1 .0 .1)
 
 clip-requires : tie.Need-clip-requires Inv-loop μ-loop
 clip-requires c κs = tt

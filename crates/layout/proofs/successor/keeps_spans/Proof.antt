@@ -17,10 +17,10 @@ abbrev μ-loop : tie.MeasureT-loop
 μ-loop old new a b ok₀ last₀ i₀ ok last i = a - i
 
 eight : (c : tie.Start Inv-loop μ-loop) → length (c .args .t1 .ranges) ≡ 8
-eight c = simp length-map at (c .good .0 .1 .1 .1 .1 .1 .1 .0 .1 .0 .1)
+eight c = simp length-map at (c .good .0 .1 .1 .1 .1 .1 .1 .1 .0 .1 .0 .1)
 
 eight-new : (c : tie.Start Inv-loop μ-loop) → length (c .args .t2 .ranges) ≡ 8
-eight-new c = simp length-map at (c .good .1 .0 .1 .1 .1 .1 .1 .1 .0 .1 .0 .1)
+eight-new c = simp length-map at (c .good .1 .0 .1 .1 .1 .1 .1 .1 .1 .0 .1 .0 .1)
 
 clip-requires : tie.Need-clip-requires Inv-loop μ-loop
 clip-requires c κs = tt

@@ -1,3 +1,4 @@
+use Rattle.layout.specs.Value.{layOf}
 use Rattle.layout.specs.Successor.{lawful}
 use Rattle.layout.proofs.successor.lawful.Statement.{statement}
 use Rattle.layout.proofs.successor.lawful.Tie as tie
@@ -21,9 +22,9 @@ keeps-sets-requires : tie.Need-keeps-sets-requires
 keeps-sets-requires c κs = tt
 
 returns : tie.Need-returns
-unfolding lawful
+unfolding lawful layOf
 returns c =
-    let t = c .before .before in
+    let t = c .before .before .before .before in
     rw (c .keeps-sets .ensures, c .before .keeps-spans .ensures, t .set-total2 .ensures .0, t .before .set-total .ensures .0, t .before .before .range-total2 .ensures .0, t .before .before .before .range-total .ensures .0)
 
 pub lawful-spec : {M : Type 1} → statement M

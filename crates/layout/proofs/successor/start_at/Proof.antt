@@ -7,7 +7,7 @@ use Rattle.layout.proofs.successor.start_at.Statement.{statement}
 use Rattle.layout.proofs.successor.start_at.Tie as tie
 
 eight : (c : tie.Start) → length (c .args .t1 .ranges) ≡ 8
-eight c = simp length-map at (c .good .0 .1 .1 .1 .1 .1 .1 .0 .1 .0 .1)
+eight c = simp length-map at (c .good .0 .1 .1 .1 .1 .1 .1 .1 .0 .1 .0 .1)
 
 clip-requires : tie.Need-clip-requires
 clip-requires c κs = tt

@@ -2,6 +2,7 @@ use Prim.Native.Nat.{_-_}
 use native.Mathlib.Omega.{arith}
 use mathlib.Core.Path.{_≡_}
 use lib.ListN.{length, length-map}
+use Rattle.layout.specs.Codec.{sizeLimit}
 use Rattle.layout.proofs.Same.{Copying, copy-none, copy-more, copy-all}
 use Rattle.layout.proofs.write.copy_front.Statement.{statement}
 use Rattle.layout.proofs.write.copy_front.Tie as tie
@@ -31,7 +32,7 @@ loop-again : tie.Need-loop-again Inv-loop μ-loop
 loop-again c =
     let l = c .before .before in
     let s = l .before in
-    let room : length (s .args .t2 .bytes) ≡ 167 = simp length-map at (s .good .1 .0 .1 .1 .0 .1 .0 .1) in
+    let room : length (s .args .t2 .bytes) ≡ sizeLimit = simp length-map at (s .good .1 .0 .1 .1 .0 .1 .0 .1) in
     copy-more (l .loop .inv) (omega arith) (omega arith)
 
 same-length : tie.Need-same-length Inv-loop μ-loop

@@ -20,13 +20,16 @@ byte-requires-2 c κs = search needs
 byte-requires-3 : tie.Need-byte-requires-3
 byte-requires-3 c κs = search needs
 
+byte-requires-4 : tie.Need-byte-requires-4
+byte-requires-4 c κs = search needs
+
 returns : tie.Need-returns
 unfolding askOf
-returns c = rw (c .before .match .keys1, c .half2 .ensures)
+returns c = rw (c .before .before .match .keys1, c .before .half2 .ensures, c .byte .ensures)
 
 returns-2 : tie.Need-returns-2
 unfolding askOf
-returns-2 c = rw (c .before .match .keys2, c .byte .ensures, c .before .before .half .ensures)
+returns-2 c = rw (c .before .match .keys2, c .byte2 .ensures, c .before .before .half .ensures)
 
 returns-3 : tie.Need-returns-3
 unfolding askOf
@@ -54,7 +57,7 @@ returns-8 c = rw (c .match .keys8)
 
 returns-9 : tie.Need-returns-9
 unfolding askOf
-returns-9 c = rw (c .before .before .match .keys9, c .before .byte2 .ensures, c .byte3 .ensures)
+returns-9 c = rw (c .before .before .match .keys9, c .before .byte3 .ensures, c .byte4 .ensures)
 
 returns-10 : tie.Need-returns-10
 unfolding askOf
@@ -82,6 +85,7 @@ ask-of-spec =
     byte-requires
     byte-requires-2
     byte-requires-3
+    byte-requires-4
     returns
     returns-2
     returns-3

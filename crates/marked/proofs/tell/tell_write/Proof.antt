@@ -14,7 +14,7 @@ array-share-prefix-bytes : tie.Need-array-share-prefix-bytes
 array-share-prefix-bytes c = search needs
 
 slice-aggregate-write : tie.Need-slice-aggregate-write
-slice-aggregate-write c = sym (length-take-le (c .before .before .least .result) (replicate 33 7) (omega arith))
+slice-aggregate-write c = sym (length-take-le (c .before .before .least .result) (replicate 81 7) (omega arith))
 
 write-requires : tie.Need-write-requires
 write-requires c κs = search needs

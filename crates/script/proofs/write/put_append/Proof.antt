@@ -16,14 +16,14 @@ use borrow.Author.Needs.{needs}
 use Rattle.script.proofs.write.put_append.Statement.{statement}
 use Rattle.script.proofs.write.put_append.Tie as tie
 
-long : (c : tie.Start) → length (c .args .t5) ≡ 32
+long : (c : tie.Start) → length (c .args .t5) ≡ 80
 long c = c .good .1 .1 .1 .1 .0 .1 .0 .1
 
 -- how many bytes they are
 whole : (c : tie.Else1) → length (1 ∷ c .before .before .before .args .client ∷ counted (take (c .before .before .before .args .len) (c .before .before .before .args .t5))) ≡ 3 + c .before .size .result
 whole c =
     let s = c .before .before .before in
-    omega (arith, c .before .size .ensures .0, length-take-le (s .args .len) (s .args .t5) (omega (arith, c .if1 .left, long s)))
+    omega (arith, c .before .size .ensures .0, length-take-le (s .args .len) (s .args .t5) (omega (arith, c .if1 .left, c .before .size .ensures .0, long s)))
 
 abbrev ready : tie.Else2 → tie.Start
 ready c = c .before .before .before .before .before
@@ -50,7 +50,7 @@ size-requires c κs = search needs
 returns : tie.Need-returns
 returns c =
     let s = c .before .before .before in
-    put-unwanted (leb (s .args .len) pageLimit) _ _ _ (lt-leb (s .args .len) pageLimit (c .if1 .taken))
+    put-unwanted (leb (s .args .len) pageLimit) _ _ _ (lt-leb (s .args .len) pageLimit (omega (arith, c .if1 .taken, c .before .size .ensures .0)))
 
 add-has-room : tie.Need-add-has-room
 add-has-room c = search needs
@@ -95,7 +95,7 @@ returns-3 : tie.Need-returns-3
 returns-3 c =
     let k = c .before .before .before .before .before in
     let e = k .before .before in
-    put-whole (leb (e .before .before .before .args .len) pageLimit) _ _ _ _ _ (le-leb (e .before .before .before .args .len) pageLimit (e .if1 .left)) (whole e) (room k) (buffer c)
+    put-whole (leb (e .before .before .before .args .len) pageLimit) _ _ _ _ _ (le-leb (e .before .before .before .args .len) pageLimit (omega (arith, e .if1 .left, e .before .size .ensures .0))) (whole e) (room k) (buffer c)
 
 pub put-append-spec : {M : Type 1} → statement M
 put-append-spec =

@@ -22,7 +22,7 @@ count-is c = start-count _ _ _ _ (written c .write-layout .ensures) (c .if1 .lef
 part-is : (c : tie.Else1) → take (written c .write-layout .result .count) (written c .write-layout .last .1 .0) ≡ bytesOf (written c .before .before .before .args .layout)
 part-is c = start-part _ _ _ _ (written c .write-layout .ensures) (c .if1 .left)
 
-few : (c : tie.Else1) → written c .write-layout .result .count ≤ 167
+few : (c : tie.Else1) → written c .write-layout .result .count ≤ 168
 few c = start-few _ _ _ _ (written c .write-layout .ensures)
 
 room : (c : tie.Else2) → leb (0 + (6 + written (c .before .before) .write-layout .result .count)) (length (written (c .before .before) .before .before .before .args .out .now)) ≡ true

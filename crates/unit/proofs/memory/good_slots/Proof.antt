@@ -20,7 +20,7 @@ slice-aggregate-slots-good c = search needs
 slots-good-requires : tie.Need-slots-good-requires
 slots-good-requires c κs =
     let p = c .before .before .before .before .before .pre in
-    (p .0, p .1, p .2, c .before .before .put-zeros .ensures ∙ ruler-made)
+    (p .0, p .1, c .before .before .put-zeros .ensures ∙ ruler-made, p .2, p .3, p .4)
 
 returns : tie.Need-returns
 returns c = search needs

@@ -17,7 +17,7 @@ add-result : tie.Need-add-result
 add-result c = record { fits = turned-fits (c .wrapping-sub-u64 .result) (omega arith) }
 
 returns : tie.Need-returns
-returns c = tag-good (c .before .args .tag) (c .wrapping-sub-u64 .result) (omega arith) (omega arith) (c .wrapping-sub-u64 .ensures)
+returns c = tag-good (c .before .args .cap) (c .before .args .tag) (c .wrapping-sub-u64 .result) (c .before .pre) (omega arith) (omega arith) (c .wrapping-sub-u64 .ensures)
 
 pub good-tag-spec : {M : Type 1} → statement M
 good-tag-spec = tie.close (tie.spec wrapping-sub-u64-requires mul-result add-result returns)

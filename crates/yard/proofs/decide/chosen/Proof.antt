@@ -1,6 +1,7 @@
 use borrow.Author.Needs.{needs}
 use mathlib.Core.Path.{sym}
 use Rattle.yard.proofs.Memories.{units-same}
+use Rattle.rule.specs.World.{shapeUnder}
 use Rattle.rule.specs.Lent.{unitsIn}
 use Rattle.rule.specs.Steps.{step}
 use Rattle.yard.proofs.Delivering.{decided-moved}
@@ -51,7 +52,7 @@ forgets-requires c κs = search needs
 
 returns : tie.Need-returns
 unfolding step
-returns c = rw (c .before .before .s .given .1) (decided-moved (unitsIn 8 (c .before .before .before .before .before .args .units .now)) (sym (units-same 1 8 (c .before .before .before .before .before .args .units .now) (c .before .before .before .before .slice-known .given) (c .before .before .before .before .before .pre))) (c .begins .ensures))
+returns c = rw (c .before .before .s .given .1) (decided-moved (unitsIn (shapeUnder (c .before .before .before .before .before .args .yard .held)) 8 (c .before .before .before .before .before .args .units .now)) (sym (units-same (c .before .before .before .before .before .args .yard .held .shape) 1 8 (c .before .before .before .before .before .args .units .now) (c .before .before .before .before .slice-known .given) (c .before .before .before .before .before .pre))) (c .begins .ensures))
 
 same-length : tie.Need-same-length
 same-length c = search needs
@@ -62,23 +63,23 @@ returns-2 c = rw (c .before .before .before .before .before .s2 .given .1) (c .b
 
 returns-3 : tie.Need-returns-3
 unfolding step
-returns-3 c = rw (c .before .before .s3 .given .1) (decided-moved (unitsIn 8 (c .before .before .before .before .before .args .units .now)) (sym (units-same 1 8 (c .before .before .before .before .before .args .units .now) (c .before .before .before .before .slice-known .given) (c .before .before .before .before .before .pre))) (c .drops .ensures))
+returns-3 c = rw (c .before .before .s3 .given .1) (decided-moved (unitsIn (shapeUnder (c .before .before .before .before .before .args .yard .held)) 8 (c .before .before .before .before .before .args .units .now)) (sym (units-same (c .before .before .before .before .before .args .yard .held .shape) 1 8 (c .before .before .before .before .before .args .units .now) (c .before .before .before .before .slice-known .given) (c .before .before .before .before .before .pre))) (c .drops .ensures))
 
 returns-4 : tie.Need-returns-4
 unfolding step
-returns-4 c = rw (c .before .before .s4 .given .1) (decided-moved (unitsIn 8 (c .before .before .before .before .before .args .units .now)) (sym (units-same 1 8 (c .before .before .before .before .before .args .units .now) (c .before .before .before .before .slice-known .given) (c .before .before .before .before .before .pre))) (c .stops .ensures))
+returns-4 c = rw (c .before .before .s4 .given .1) (decided-moved (unitsIn (shapeUnder (c .before .before .before .before .before .args .yard .held)) 8 (c .before .before .before .before .before .args .units .now)) (sym (units-same (c .before .before .before .before .before .args .yard .held .shape) 1 8 (c .before .before .before .before .before .args .units .now) (c .before .before .before .before .slice-known .given) (c .before .before .before .before .before .pre))) (c .stops .ensures))
 
 returns-5 : tie.Need-returns-5
 unfolding step
-returns-5 c = rw (c .before .before .s5 .given .1) (decided-moved (unitsIn 8 (c .before .before .before .before .before .args .units .now)) (sym (units-same 1 8 (c .before .before .before .before .before .args .units .now) (c .before .before .before .before .slice-known .given) (c .before .before .before .before .before .pre))) (c .restarts .ensures))
+returns-5 c = rw (c .before .before .s5 .given .1) (decided-moved (unitsIn (shapeUnder (c .before .before .before .before .before .args .yard .held)) 8 (c .before .before .before .before .before .args .units .now)) (sym (units-same (c .before .before .before .before .before .args .yard .held .shape) 1 8 (c .before .before .before .before .before .args .units .now) (c .before .before .before .before .slice-known .given) (c .before .before .before .before .before .pre))) (c .restarts .ensures))
 
 returns-6 : tie.Need-returns-6
 unfolding step
-returns-6 c = rw (c .before .before .s6 .given .1) (decided-moved (unitsIn 8 (c .before .before .before .before .before .args .units .now)) (sym (units-same 1 8 (c .before .before .before .before .before .args .units .now) (c .before .before .before .before .slice-known .given) (c .before .before .before .before .before .pre))) (c .gives-up .ensures))
+returns-6 c = rw (c .before .before .s6 .given .1) (decided-moved (unitsIn (shapeUnder (c .before .before .before .before .before .args .yard .held)) 8 (c .before .before .before .before .before .args .units .now)) (sym (units-same (c .before .before .before .before .before .args .yard .held .shape) 1 8 (c .before .before .before .before .before .args .units .now) (c .before .before .before .before .slice-known .given) (c .before .before .before .before .before .pre))) (c .gives-up .ensures))
 
 returns-7 : tie.Need-returns-7
 unfolding step
-returns-7 c = rw (c .before .enum-told .given .1) (decided-moved (unitsIn 8 (c .before .before .before .before .args .units .now)) (sym (units-same 1 8 (c .before .before .before .before .args .units .now) (c .before .before .before .slice-known .given) (c .before .before .before .before .pre))) (c .forgets .ensures))
+returns-7 c = rw (c .before .enum-told .given .1) (decided-moved (unitsIn (shapeUnder (c .before .before .before .before .args .yard .held)) 8 (c .before .before .before .before .args .units .now)) (sym (units-same (c .before .before .before .before .args .yard .held .shape) 1 8 (c .before .before .before .before .args .units .now) (c .before .before .before .slice-known .given) (c .before .before .before .before .pre))) (c .forgets .ensures))
 
 pub chosen-spec : {M : Type 1} → statement M
 chosen-spec =

@@ -2,6 +2,7 @@ use borrow.Author.Needs.{needs}
 use mathlib.Core.Path.{sym}
 use native.Mathlib.Omega.{arith}
 use Rattle.yard.proofs.Memories.{units-same}
+use Rattle.rule.specs.World.{shapeUnder}
 use Rattle.rule.specs.Lent.{unitsIn}
 use Rattle.yard.proofs.Delivering.{decided-moved, delivers-nobody, delivers-brought}
 use Rattle.yard.proofs.deliver.delivers.Statement.{statement}
@@ -13,7 +14,7 @@ refused-requires c κs = search needs
 returns : tie.Need-returns
 returns c =
     let a = c .before .before .before .before .args in
-    rw (c .refused .ensures) (delivers-nobody (a .yard) (a .seq) (unitsIn 8 (a .units .now)) (a .i) (a .keeps) (a .keeps-answer) (a .l) (sym (units-same 1 8 (c .before .before .before .before .args .units .now) (c .before .before .before .slice-known .given) (c .before .before .before .before .pre))) (λ h. absurd (omega (arith, h, c .before .if1 .taken))))
+    rw (c .refused .ensures) (delivers-nobody (a .yard) (a .seq) (unitsIn (shapeUnder (a .yard .held)) 8 (a .units .now)) (a .i) (a .keeps) (a .keeps-answer) (a .l) (sym (units-same (c .before .before .before .before .args .yard .held .shape) 1 8 (c .before .before .before .before .args .units .now) (c .before .before .before .slice-known .given) (c .before .before .before .before .pre))) (λ h. absurd (omega (arith, h, c .before .if1 .taken))))
 
 enum-told : tie.Need-enum-told
 enum-told c = search needs
@@ -36,7 +37,7 @@ returns-to-requires c κs = search needs
 returns-2 : tie.Need-returns-2
 returns-2 c =
     let a = c .before .before .before .before .before .before .args in
-    rw (c .refused2 .ensures) (delivers-nobody (a .yard) (a .seq) (unitsIn 8 (a .units .now)) (a .i) (a .keeps) (a .keeps-answer) (a .l) (sym (units-same 1 8 (c .before .before .before .before .before .before .args .units .now) (c .before .before .before .before .before .slice-known .given) (c .before .before .before .before .before .before .pre))) (λ h. c .before .enum-told .given .1))
+    rw (c .refused2 .ensures) (delivers-nobody (a .yard) (a .seq) (unitsIn (shapeUnder (a .yard .held)) 8 (a .units .now)) (a .i) (a .keeps) (a .keeps-answer) (a .l) (sym (units-same (c .before .before .before .before .before .before .args .yard .held .shape) 1 8 (c .before .before .before .before .before .before .args .units .now) (c .before .before .before .before .before .slice-known .given) (c .before .before .before .before .before .before .pre))) (λ h. c .before .enum-told .given .1))
 
 same-length : tie.Need-same-length
 same-length c = search needs
@@ -44,12 +45,12 @@ same-length c = search needs
 returns-3 : tie.Need-returns-3
 returns-3 c =
     let a = c .before .before .before .before .before .before .before .before .before .before .args in
-    delivers-brought (a .yard) (a .seq) (unitsIn 8 (a .units .now)) (a .keeps) (a .keeps-answer) (c .before .before .before .before .before .before .before .if1 .left) (c .before .before .hands .ensures (a .i) (c .before .before .before .before .before .before .before .if1 .left))
+    delivers-brought (a .yard) (a .seq) (unitsIn (shapeUnder (a .yard .held)) 8 (a .units .now)) (a .keeps) (a .keeps-answer) (c .before .before .before .before .before .before .before .if1 .left) (c .before .before .hands .ensures (a .i) (c .before .before .before .before .before .before .before .if1 .left))
 
 returns-4 : tie.Need-returns-4
 returns-4 c =
     let a = c .before .before .before .before .before .before .before .args in
-    delivers-brought (a .yard) (a .seq) (unitsIn 8 (a .units .now)) (a .keeps) (a .keeps-answer) (c .before .before .before .before .if1 .left) (decided-moved (unitsIn 8 (a .units .now)) (sym (units-same 1 8 (c .before .before .before .before .before .before .before .args .units .now) (c .before .before .before .before .before .before .slice-known .given) (c .before .before .before .before .before .before .before .pre))) (c .returns-to .ensures (a .i) (a .keeps-answer) (c .before .before .before .before .if1 .left)))
+    delivers-brought (a .yard) (a .seq) (unitsIn (shapeUnder (a .yard .held)) 8 (a .units .now)) (a .keeps) (a .keeps-answer) (c .before .before .before .before .if1 .left) (decided-moved (unitsIn (shapeUnder (a .yard .held)) 8 (a .units .now)) (sym (units-same (c .before .before .before .before .before .before .before .args .yard .held .shape) 1 8 (c .before .before .before .before .before .before .before .args .units .now) (c .before .before .before .before .before .before .slice-known .given) (c .before .before .before .before .before .before .before .pre))) (c .returns-to .ensures (a .i) (a .keeps-answer) (c .before .before .before .before .if1 .left)))
 
 pub delivers-spec : {M : Type 1} → statement M
 delivers-spec =

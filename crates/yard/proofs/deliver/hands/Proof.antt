@@ -5,7 +5,7 @@ use Rattle.yard.proofs.Memories.{units-same}
 use Rattle.rule.specs.Lent.{unitsIn}
 use mathlib.Core.Bool.{not}
 use Rattle.num.proofs.Tests.{or-false}
-use Rattle.rule.specs.World.{isClient}
+use Rattle.rule.specs.World.{shapeUnder, isClient}
 use Rattle.rule.specs.Serve.{unserved}
 use Rattle.yard.proofs.Delivering.{decided-moved, asks-nobody, asks-full, asks-served}
 use Rattle.yard.proofs.deliver.hands.Statement.{statement}
@@ -24,7 +24,7 @@ returns : tie.Need-returns
 returns c =
     let a = c .before .before .before .before .before .before .before .before .before .args in
     let t = rw (c .before .before .before .is-client .ensures, c .before .before .is-unserved .ensures) at (c .before .if1 .taken) in
-    λ i h. rw (c .refused .ensures) (decided-moved (unitsIn 8 (a .units .now)) (sym (units-same 1 8 (c .before .before .before .before .before .before .before .before .before .args .units .now) (c .before .before .before .before .before .before .before .before .slice-known .given) (c .before .before .before .before .before .before .before .before .before .pre .0))) (asks-nobody (a .yard) (a .seq) (a .keeps) (a .keeps-answer) (a .l) (c .before .before .before .before .before .before .before .before .before .pre .1) t i))
+    λ i h. rw (c .refused .ensures) (decided-moved (unitsIn (shapeUnder (a .yard .held)) 8 (a .units .now)) (sym (units-same (c .before .before .before .before .before .before .before .before .before .args .yard .held .shape) 1 8 (c .before .before .before .before .before .before .before .before .before .args .units .now) (c .before .before .before .before .before .before .before .before .slice-known .given) (c .before .before .before .before .before .before .before .before .before .pre .0))) (asks-nobody (a .yard) (a .seq) (a .keeps) (a .keeps-answer) (a .l) (c .before .before .before .before .before .before .before .before .before .pre .1) t i))
 
 count-after-requires : tie.Need-count-after-requires
 count-after-requires c κs = search needs
@@ -37,7 +37,7 @@ returns-2 c =
     let a = c .before .before .before .before .before .before .before .before .before .before .before .args in
     let t = rw (c .before .before .before .before .before .is-client .ensures, c .before .before .before .before .is-unserved .ensures) at (c .before .before .before .if1 .left) in
     let f = lt-ltb 32 _ (rw (c .before .before .count-after .ensures) at (c .before .if2 .taken)) in
-    λ i h. rw (c .refused2 .ensures) (decided-moved (unitsIn 8 (a .units .now)) (sym (units-same 1 8 (c .before .before .before .before .before .before .before .before .before .before .before .args .units .now) (c .before .before .before .before .before .before .before .before .before .before .slice-known .given) (c .before .before .before .before .before .before .before .before .before .before .before .pre .0))) (asks-full (a .yard) (a .seq) (a .keeps) (a .keeps-answer) (a .l) (c .before .before .before .before .before .before .before .before .before .before .before .pre .1) t i h f))
+    λ i h. rw (c .refused2 .ensures) (decided-moved (unitsIn (shapeUnder (a .yard .held)) 8 (a .units .now)) (sym (units-same (c .before .before .before .before .before .before .before .before .before .before .before .args .yard .held .shape) 1 8 (c .before .before .before .before .before .before .before .before .before .before .before .args .units .now) (c .before .before .before .before .before .before .before .before .before .before .slice-known .given) (c .before .before .before .before .before .before .before .before .before .before .before .pre .0))) (asks-full (a .yard) (a .seq) (a .keeps) (a .keeps-answer) (a .l) (c .before .before .before .before .before .before .before .before .before .before .before .pre .1) t i h f))
 
 serve-requires : tie.Need-serve-requires
 serve-requires c κs =

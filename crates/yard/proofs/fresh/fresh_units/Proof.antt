@@ -6,13 +6,13 @@ use Rattle.yard.proofs.Freshening.{Filled, filled-none, filled-again, f
 use Rattle.yard.proofs.fresh.fresh_units.Tie as tie
 
 abbrev Inv-loop : tie.InvT-loop
-Inv-loop units₀ i₀ units i = Filled units i
+Inv-loop units₀ shape i₀ units i = Filled shape units i
 
 abbrev μ-loop : tie.MeasureT-loop
-μ-loop units₀ i₀ units i = i
+μ-loop units₀ shape i₀ units i = i
 
 loop-holds : tie.Need-loop-holds Inv-loop μ-loop
-loop-holds c = filled-none (c .before .args .units .now) (c .before .pre)
+loop-holds c = filled-none (c .before .args .shape) (c .before .args .units .now) (c .before .pre .0)
 
 sub-i : tie.Need-sub-i Inv-loop μ-loop
 sub-i c = c .loop-test .taken
@@ -48,10 +48,10 @@ loop-again : tie.Need-loop-again Inv-loop μ-loop
 loop-again c =
     let i : ℕ = c .before .before .before .before .before .loop .i in
     let e : (i - 1) * 6168 + 6168 - (i - 1) * 6168 ≡ 6168 = omega arith in
-    rw e (filled-again (c .before .before .before .before .before .loop .inv) (c .before .before .before .before .loop-test .taken) (rw e at (c .before .before .fresh .ensures)))
+    rw e (filled-again (c .before .before .before .before .before .before .before .pre .1) (c .before .before .before .before .before .loop .inv) (c .before .before .before .before .loop-test .taken) (rw e at (c .before .before .fresh .ensures)))
 
 same-length : tie.Need-same-length Inv-loop μ-loop
-same-length c = c .before .loop .inv .long ∙ sym (c .before .before .before .pre)
+same-length c = c .before .loop .inv .long ∙ sym (c .before .before .before .pre .0)
 
 returns : tie.Need-returns Inv-loop μ-loop
 returns c =

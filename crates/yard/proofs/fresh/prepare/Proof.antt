@@ -1,6 +1,6 @@
 use borrow.Author.Needs.{needs}
 use mathlib.Core.Path.{sym, _∙_}
-use Rattle.yard.proofs.Freshening.{memories-long, prepared-not, prepared}
+use Rattle.yard.proofs.Freshening.{memories-long, layout-known, prepared-not, prepared}
 use Rattle.yard.proofs.fresh.prepare.Statement.{statement}
 use Rattle.yard.proofs.fresh.prepare.Tie as tie
 
@@ -21,7 +21,8 @@ returns c =
 fresh-units-requires : tie.Need-fresh-units-requires
 fresh-units-requires c κs =
     let a = c .before .before .before .before .args in
-    memories-long (a .held) (a .places) _ (sym (c .before .before .fresh-number .ensures) ∙ c .before .if1 .left)
+    let z = sym (c .before .before .fresh-number .ensures) ∙ c .before .if1 .left in
+    (memories-long (a .held) (a .places) _ z, layout-known (a .held) (a .places) _ z)
 
 fresh-yard-requires-2 : tie.Need-fresh-yard-requires-2
 fresh-yard-requires-2 c κs = search needs

@@ -24,7 +24,7 @@ returns : tie.Need-returns
 unfolding jobAnswer
 returns c =
     let a = c .before .before .before .before .args in
-    rw (c .pick2 .ensures, c .before .pick .ensures, c .before .before .job-answer .ensures, c .before .before .before .ready-answer .ensures) (sym (ready-first (a .client) (16 if leb 32 (a .count) ∷ jobChecks (a .job))))
+    rw (c .pick2 .ensures, c .before .pick .ensures, c .before .before .job-answer .ensures, c .before .before .before .ready-answer .ensures) (sym (ready-first (a .client) (16 if leb 32 (a .count) ∷ jobChecks (a .job) (a .shape))))
 
 pub begin-number-spec : {M : Type 1} → statement M
 begin-number-spec =

@@ -1,5 +1,5 @@
 use mathlib.Core.Path.{sym}
-use Rattle.unit.specs.Shape.{small}
+use Rattle.unit.specs.Shape.{shapeOf}
 use Rattle.unit.proofs.Encoding.{encode-decode}
 use Rattle.yard.specs.Parts.{unitSays, unitAfter}
 use borrow.Author.Needs.{needs}
@@ -72,7 +72,7 @@ same-length-2 c = search needs
 
 returns-2 : tie.Need-returns-2
 unfolding unitSays unitAfter
-returns-2 c = rw (c .before .before .before .ask2 .given .1) (record { response-is = c .read-on .ensures; memory-is = sym (encode-decode small (c .before .before .before .before .before .before .args .mem .now) (c .before .before .before .before .before .slice-known .given) (c .before .before .before .before .before .before .pre)) })
+returns-2 c = rw (c .before .before .before .ask2 .given .1) (record { response-is = c .read-on .ensures; memory-is = sym (encode-decode (shapeOf (c .before .before .before .before .before .before .args .mem .now)) (c .before .before .before .before .before .before .args .mem .now) (c .before .before .before .before .before .slice-known .given) (c .before .before .before .before .before .before .pre)) })
 
 same-length-3 : tie.Need-same-length-3
 same-length-3 c = search needs
@@ -97,19 +97,19 @@ returns-5 c = rw (c .before .before .before .before .before .ask5 .given .1) (c 
 
 returns-6 : tie.Need-returns-6
 unfolding unitSays unitAfter
-returns-6 c = rw (c .before .enum-told .given .1) (record { response-is = c .blank .ensures; memory-is = sym (encode-decode small (c .before .before .before .before .args .mem .now) (c .before .before .before .slice-known .given) (c .before .before .before .before .pre)) })
+returns-6 c = rw (c .before .enum-told .given .1) (record { response-is = c .blank .ensures; memory-is = sym (encode-decode (shapeOf (c .before .before .before .before .args .mem .now)) (c .before .before .before .before .args .mem .now) (c .before .before .before .slice-known .given) (c .before .before .before .before .pre)) })
 
 returns-7 : tie.Need-returns-7
 unfolding unitSays unitAfter
-returns-7 c = rw (c .before .enum-told2 .given .1) (record { response-is = c .blank2 .ensures; memory-is = sym (encode-decode small (c .before .before .before .before .args .mem .now) (c .before .before .before .slice-known .given) (c .before .before .before .before .pre)) })
+returns-7 c = rw (c .before .enum-told2 .given .1) (record { response-is = c .blank2 .ensures; memory-is = sym (encode-decode (shapeOf (c .before .before .before .before .args .mem .now)) (c .before .before .before .before .args .mem .now) (c .before .before .before .slice-known .given) (c .before .before .before .before .pre)) })
 
 returns-8 : tie.Need-returns-8
 unfolding unitSays unitAfter
-returns-8 c = rw (c .before .enum-told3 .given .1) (record { response-is = c .blank3 .ensures; memory-is = sym (encode-decode small (c .before .before .before .before .args .mem .now) (c .before .before .before .slice-known .given) (c .before .before .before .before .pre)) })
+returns-8 c = rw (c .before .enum-told3 .given .1) (record { response-is = c .blank3 .ensures; memory-is = sym (encode-decode (shapeOf (c .before .before .before .before .args .mem .now)) (c .before .before .before .before .args .mem .now) (c .before .before .before .slice-known .given) (c .before .before .before .before .pre)) })
 
 returns-9 : tie.Need-returns-9
 unfolding unitSays unitAfter
-returns-9 c = rw (c .before .enum-told4 .given .1) (record { response-is = c .blank4 .ensures; memory-is = sym (encode-decode small (c .before .before .before .before .args .mem .now) (c .before .before .before .slice-known .given) (c .before .before .before .before .pre)) })
+returns-9 c = rw (c .before .enum-told4 .given .1) (record { response-is = c .blank4 .ensures; memory-is = sym (encode-decode (shapeOf (c .before .before .before .before .args .mem .now)) (c .before .before .before .before .args .mem .now) (c .before .before .before .slice-known .given) (c .before .before .before .before .pre)) })
 
 pub ask-unit-spec : {M : Type 1} → statement M
 ask-unit-spec =

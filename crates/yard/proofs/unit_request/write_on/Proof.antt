@@ -4,6 +4,7 @@ use Rattle.rule.specs.Serve.{saying, bare}
 use Rattle.client.specs.declared.Reply.{Reply}
 use lib.Seq.{length-take-le}
 use native.Mathlib.Omega.{arith}
+use Rattle.client.specs.Message.{pageLimit}
 use Rattle.yard.proofs.Doing.{write-does}
 use Prim.Native.Nat.{_≤_}
 use lib.ListN.{length, length-map}
@@ -18,12 +19,12 @@ len-of-requires c κs = search needs
 
 array-share-prefix-bytes : tie.Need-array-share-prefix-bytes
 array-share-prefix-bytes c =
-    let room : length (c .before .before .before .before .before .args .page .bytes) ≡ 32 = simp length-map at (c .before .before .before .before .before .good .1 .1 .1 .0 .1 .1 .1 .1 .0 .1 .0 .1) in
+    let room : length (c .before .before .before .before .before .args .page .bytes) ≡ pageLimit = simp length-map at (c .before .before .before .before .before .good .1 .1 .1 .0 .1 .1 .1 .1 .0 .1 .0 .1) in
     omega (arith, c .before .len-of .ensures .0)
 
 slice-aggregate-write : tie.Need-slice-aggregate-write
 slice-aggregate-write c =
-    let room : length (c .before .before .before .before .before .before .args .page .bytes) ≡ 32 = simp length-map at (c .before .before .before .before .before .before .good .1 .1 .1 .0 .1 .1 .1 .1 .0 .1 .0 .1) in
+    let room : length (c .before .before .before .before .before .before .args .page .bytes) ≡ pageLimit = simp length-map at (c .before .before .before .before .before .before .good .1 .1 .1 .0 .1 .1 .1 .1 .0 .1 .0 .1) in
     sym (length-take-le (c .before .before .len-of .result) (c .before .before .before .before .before .before .args .page .bytes) (omega (arith, c .before .before .len-of .ensures .0)))
 
 write-requires : tie.Need-write-requires

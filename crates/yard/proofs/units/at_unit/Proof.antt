@@ -5,7 +5,8 @@ use lib.Dec.{leb}
 use native.Mathlib.Omega.{arith}
 use borrow.Author.Tests.{leb-true}
 use Rattle.num.proofs.Tests.{and-both}
-use Rattle.yard.proofs.Memories.{good-long, good-part, at-part}
+use Rattle.unit.specs.Memory.{codeOf}
+use Rattle.yard.proofs.Memories.{good-long, part-good, at-part}
 use Rattle.yard.proofs.units.at_unit.Statement.{statement}
 use Rattle.yard.proofs.units.at_unit.Tie as tie
 
@@ -27,13 +28,13 @@ part-ask-unit-start : tie.Need-part-ask-unit-start
 part-ask-unit-start c = search needs
 
 part-ask-unit-end : tie.Need-part-ask-unit-end
-part-ask-unit-end c = omega (arith, good-long 1 8 (c .before .before .args .units .now) (c .before .before .pre .0), c .start-of .ensures .1)
+part-ask-unit-end c = omega (arith, good-long (codeOf (c .before .before .args .units .now)) 1 8 (c .before .before .args .units .now) (c .before .before .pre .0), c .start-of .ensures .1)
 
 ask-unit-requires : tie.Need-ask-unit-requires
 ask-unit-requires c κs =
     let s = c .before .before .before in
     let e : c .before .start-of .result + 6168 - c .before .start-of .result ≡ 6168 = omega arith in
-    rw (e, c .before .start-of .ensures .0) (good-part 1 8 (s .args .units .now) (s .args .u - 1) (s .pre .0) (below s))
+    rw (e, c .before .start-of .ensures .0) (part-good (codeOf (s .args .units .now)) 1 8 (s .args .units .now) (s .args .u - 1) (s .pre .0) (below s))
 
 same-length : tie.Need-same-length
 same-length c = search needs
@@ -43,7 +44,7 @@ returns c =
     let s = c .before .before .before .before .before .before in
     let f = c .before .before .before .before .start-of .ensures .0 in
     let e : c .before .before .before .before .start-of .result + 6168 - c .before .before .before .before .start-of .result ≡ 6168 = omega arith in
-    at-part (s .args .units .now) (s .args .u) (s .args .ask) (s .args .page) (c .before .before .before .before .before .slice-known .given) (s .pre .0) (below s) e f (c .before .before .ask-unit .ensures)
+    at-part (codeOf (s .args .units .now)) (s .args .units .now) (s .args .u) (s .args .ask) (s .args .page) (c .before .before .before .before .before .slice-known .given) (s .pre .0) (below s) e f (c .before .before .ask-unit .ensures)
 
 pub at-unit-spec : {M : Type 1} → statement M
 at-unit-spec =

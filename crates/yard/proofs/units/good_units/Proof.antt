@@ -5,25 +5,22 @@ use native.Mathlib.Numerals.{add-one}
 use lib.ListN.{length}
 use borrow.Author.Tests.{not-true, not-false}
 use Rattle.yard.proofs.Memories.{Passed, passed-none, passed-stop, passed-more, passed-all, wrong-length, part}
-use mathlib.Core.Bool.{_&&_}
 use mathlib.Core.List.{List}
-use lib.Dec.{eqb}
-use Rattle.unit.specs.Shape.{small}
-use Rattle.unit.specs.Memory.{good, numberOf}
+use Rattle.rule.specs.Lent.{goodUnit}
 use Rattle.yard.proofs.units.good_units.Statement.{statement}
 use Rattle.yard.proofs.units.good_units.Tie as tie
 
 abbrev Inv-loop : tie.InvT-loop
-Inv-loop units i₀ i = Passed units i
+Inv-loop units shape i₀ i = Passed shape units i
 
 abbrev μ-loop : tie.MeasureT-loop
-μ-loop units i₀ i = 8 - i
+μ-loop units shape i₀ i = 8 - i
 
 returns : tie.Need-returns Inv-loop μ-loop
-returns c = wrong-length (c .before .before .args .units .now) (c .if1 .taken)
+returns c = wrong-length (c .before .before .args .shape) (c .before .before .args .units .now) (c .if1 .taken)
 
 loop-holds : tie.Need-loop-holds Inv-loop μ-loop
-loop-holds c = passed-none (c .before .before .args .units .now)
+loop-holds c = passed-none (c .before .before .args .shape) (c .before .before .args .units .now)
 
 mul-start : tie.Need-mul-start Inv-loop μ-loop
 mul-start c = omega arith
@@ -51,7 +48,7 @@ returns-2 c =
     let i : ℕ = c .before .before .before .before .loop .i in
     let m : List ℕ = c .before .before .before .before .before .before .before .args .units .now in
     let e : i * 6168 + 6168 - i * 6168 ≡ 6168 = omega arith in
-    let k : c .before .good-unit .result ≡ (good small (part m i) && eqb (numberOf (part m i)) (suc i)) = rw (e, add-one) at (c .before .good-unit .ensures) in
+    let k : c .before .good-unit .result ≡ goodUnit (c .before .before .before .before .before .before .before .args .shape) (suc i) (part m i) = rw (e, add-one) at (c .before .good-unit .ensures) in
     passed-stop (c .before .before .before .before .loop .inv) (c .before .before .before .loop-test .taken) (sym k ∙ not-true _ (c .if2 .taken))
 
 add-i : tie.Need-add-i Inv-loop μ-loop
@@ -65,7 +62,7 @@ loop-again c =
     let i : ℕ = c .before .before .before .before .loop .i in
     let m : List ℕ = c .before .before .before .before .before .before .before .args .units .now in
     let e : i * 6168 + 6168 - i * 6168 ≡ 6168 = omega arith in
-    let k : c .before .good-unit .result ≡ (good small (part m i) && eqb (numberOf (part m i)) (suc i)) = rw (e, add-one) at (c .before .good-unit .ensures) in
+    let k : c .before .good-unit .result ≡ goodUnit (c .before .before .before .before .before .before .before .args .shape) (suc i) (part m i) = rw (e, add-one) at (c .before .good-unit .ensures) in
     rw add-one (passed-more (c .before .before .before .before .loop .inv) (c .before .before .before .loop-test .taken) (sym k ∙ not-false _ (c .if2 .left)))
 
 returns-3 : tie.Need-returns-3 Inv-loop μ-loop

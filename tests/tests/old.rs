@@ -1,0 +1,97 @@
+//! A memory from before there were two shapes: the library of that version made `old/unit-3.memory` by the calls below, and kept
+//! nothing in the three bytes behind the unit's number. It reads as a small unit, and the same calls still leave those bytes.
+
+use station_tests::call::{Call, Side};
+use station_tests::compare::{agree, SIDES};
+use station_tests::memory::{parse, print, MEMORY};
+use station_tests::samples::{probes, UNTOUCHED};
+use station_tests::unit::{Page, Shape, Unit};
+use std::collections::BTreeMap;
+
+const OLD: &[u8; MEMORY] = include_bytes!("../old/unit-3.memory");
+
+/// Bytes for the page at a position: of each length in turn, from none to a whole page.
+fn bytes(position: u64) -> Vec<u8> {
+    (0..position % 33).map(|byte| (11 * position + 7 * byte) as u8).collect()
+}
+
+fn write(epoch: u32, position: u64, kind: u8, data: Vec<u8>) -> Call {
+    Call::Write { epoch, position, kind, data }
+}
+
+/// The calls that made it, after a fresh unit 3: pages from 0 to 129, junk at each seventh, pruned to 10 on the way, sealed at 1,
+/// then three trims, of data, of junk and of a position never written.
+fn calls() -> Vec<Call> {
+    let page = |position| match position % 7 {
+        6 => write(1, position, 2, Vec::new()),
+        _ => write(1, position, 1, bytes(position)),
+    };
+    let mut calls: Vec<Call> = (0..100).map(page).collect();
+    calls.push(Call::Prune { epoch: 1, position: 10 });
+    calls.extend((100..130).map(page));
+    calls.push(Call::Seal { epoch: 1 });
+    calls.extend([12, 13, 1 << 33].map(|position| Call::Trim { epoch: 2, position }));
+    calls
+}
+
+/// The unit that the paper says they leave.
+fn expected() -> Unit {
+    let page = |position| match position {
+        12 | 13 => (position, Page::Trimmed),
+        _ if position % 7 == 6 => (position, Page::Junk),
+        _ => (position, Page::Data(bytes(position))),
+    };
+    let mut slots: BTreeMap<u64, Page> = (10..130).map(page).collect();
+    slots.insert(1 << 33, Page::Trimmed);
+    Unit { shape: Shape::Small, number: 3, sealed: 1, floor: 10, slots }
+}
+
+#[test]
+fn an_old_memory_is_a_small_unit() {
+    assert_eq!(OLD[..4], [3, 0, 0, 0]);
+    assert_eq!(parse(OLD), Some(expected()));
+    assert_eq!(print(&expected()), OLD);
+}
+
+#[test]
+fn its_pages_are_read() {
+    for (position, page) in &expected().slots {
+        let seen = agree("the old memory", OLD, &Call::Read { epoch: 2, position: *position }, UNTOUCHED);
+        match page {
+            Page::Data(data) => {
+                assert_eq!((seen.answer, seen.outputs.kind), (0, 1), "read {position}");
+                let start = seen.outputs.start as usize;
+                assert_eq!(&OLD[start..start + seen.outputs.length as usize], data, "read {position}");
+            }
+            Page::Junk => {
+                assert_eq!((seen.answer, seen.outputs.kind, seen.outputs.length), (0, 2, 0), "read {position}")
+            }
+            Page::Trimmed => assert_eq!(seen.answer, 5, "read {position}"),
+        }
+    }
+}
+
+#[test]
+fn it_goes_on_as_a_small_unit() {
+    for call in probes(&expected()) {
+        agree("the old memory", OLD, &call, UNTOUCHED);
+    }
+    let long = |length| write(2, 1000, 1, vec![1; length]);
+    assert_eq!(agree("the old memory", OLD, &long(32), UNTOUCHED).answer, 0);
+    assert_eq!(agree("the old memory", OLD, &long(33), UNTOUCHED).answer, 3);
+}
+
+#[test]
+fn the_same_calls_leave_the_same_bytes() {
+    let made = |side: Side| {
+        let fresh = side(&[0x5A; MEMORY], &Call::Fresh { number: 3, shape: 0 }, UNTOUCHED).memory;
+        calls().iter().fold(fresh, |memory, call| {
+            let after = side(&memory, call, UNTOUCHED);
+            assert_eq!(after.answer, 0, "{call:?}");
+            after.memory
+        })
+    };
+    for side in SIDES {
+        assert!(made(side) == OLD, "the calls leave other bytes now");
+    }
+}
