@@ -17,6 +17,7 @@ use Rattle.num.proofs.Numbers.{Bytes}
 use Rattle.unit.specs.Zeros.{zeros, ruler}
 use Rattle.unit.specs.Shape.{slotSize}
 use Rattle.unit.specs.Memory.{goodFields, goodSlot, goodSlots}
+use Rattle.unit.proofs.Fields.{and-assoc}
 use Rattle.unit.proofs.Words.{or-none, rest-words}
 use Rattle.unit.proofs.Goodness.{FieldsGood, fields-good, slot-words}
 
@@ -61,18 +62,19 @@ turned-back cap tag t c e l =
 
 -- t is one less than the word, and its low byte is moved to the top
 pub tag-good : (cap tag t : ℕ) → cap ≤ 80 → tag < 2 ^ 64 → t < 2 ^ 64 → (t + 1) % 2 ^ 64 ≡ tag
-    → (leb (t / 256 + t % 256 * 72057594037927936) cap || eqb (tag / 2) 1) ≡ goodFields cap 0 0 (tag % 256) (tag / 256)
-tag-good cap tag t hc hg ht e = go (leb turned cap) refl (eqb (tag / 2) 1) refl
+    → (leb (t / 256 + t % 256 * 72057594037927936) cap || leb t 2) ≡ goodFields cap 0 0 (tag % 256) (tag / 256)
+tag-good cap tag t hc hg ht e = go (leb turned cap) refl (leb t 2) refl
   where
     turned : ℕ
     turned = t / 256 + t % 256 * 72057594037927936
 
-    go : (a : Bool) → leb turned cap ≡ a → (b : Bool) → eqb (tag / 2) 1 ≡ b → (a || b) ≡ goodFields cap 0 0 (tag % 256) (tag / 256)
+    go : (a : Bool) → leb turned cap ≡ a → (b : Bool) → leb t 2 ≡ b → (a || b) ≡ goodFields cap 0 0 (tag % 256) (tag / 256)
     go true h b g =
         let (k, n) = turned-back cap tag t hc e (leb-true turned cap h) in
         sym (rw (k, le-leb (tag / 256) cap n))
     go false h true g =
-        let l = eqb-true (tag / 2) 1 g in
+        let l = leb-true t 2 g in
+        let q = few-next tag t e (omega arith) in
         let n : tag / 256 ≡ 0 = omega arith in
         let k : 1 ≤ tag % 256 = omega arith in
         let m : tag % 256 ≤ 3 = omega arith in
@@ -90,8 +92,18 @@ tag-good cap tag t hc hg ht e = go (leb turned cap) refl (eqb (tag / 2) 1) refl
             pick false q =
                 let d = eqb-false (tag % 256) 1 q in
                 let l = eqb-true (tag / 256) 0 (rw q at (f .plain)) in
-                let x = eqb-false (tag / 2) 1 g in
-                omega (arith, f .least, f .most)
+                let x = leb-false t 2 g in
+                let a = f .least in
+                let b = f .most in
+                let n : tag ≡ t + 1 = omega arith in
+                omega arith
+
+-- and the length of a word that may be good
+pub tag-length : (tag t : ℕ) → tag < 2 ^ 64 → t < 2 ^ 64 → (t + 1) % 2 ^ 64 ≡ tag → 1 ≤ tag % 256 → tag / 256 ≤ 80 → t / 256 % 128 ≡ tag / 256
+tag-length tag t hg ht e h l =
+    let n : tag ≡ t + 1 = omega arith in
+    let q : t / 256 ≡ tag / 256 = omega arith in
+    omega arith
 
 fields-apart : (cap low p kind len : ℕ) → goodFields cap low p kind len ≡ ((leb low p && ltb p limit) && goodFields cap 0 0 kind len)
 fields-apart cap low p kind len = apart (leb low p && ltb p limit) _ _ _ _
@@ -107,17 +119,25 @@ and-swap true true c d = refl
 and-swap true false c d = sym (and-false c)
 and-swap false b c d = refl
 
-sums-apart : (a b c d e w x y z v : ℕ)
-    → (eqb (bitOr a w) 0 && eqb (bitOr b x) 0 && eqb (bitOr c y) 0 && eqb (bitOr d z) 0 && eqb (bitOr e v) 0)
-    ≡ ((eqb a 0 && eqb b 0 && eqb c 0 && eqb d 0 && eqb e 0) && (eqb w 0 && eqb x 0 && eqb y 0 && eqb z 0 && eqb v 0))
-sums-apart a b c d e w x y z v =
-    rw (or-none a w, or-none b x, or-none c y, or-none d z, or-none e v)
-    (five (eqb a 0) (eqb b 0) (eqb c 0) (eqb d 0) (eqb e 0) (eqb w 0) (eqb x 0) (eqb y 0) (eqb z 0) (eqb v 0))
+sums-apart : (a b c d w x y z : ℕ)
+    → (eqb (bitOr a w) 0 && eqb (bitOr b x) 0 && eqb (bitOr c y) 0 && eqb (bitOr d z) 0)
+    ≡ ((eqb a 0 && eqb b 0 && eqb c 0 && eqb d 0) && (eqb w 0 && eqb x 0 && eqb y 0 && eqb z 0))
+sums-apart a b c d w x y z =
+    rw (or-none a w, or-none b x, or-none c y, or-none d z) (four (eqb a 0) (eqb b 0) (eqb c 0) (eqb d 0) (eqb w 0) (eqb x 0) (eqb y 0) (eqb z 0))
   where
-    five : (a b c d e w x y z v : Bool) → ((a && w) && (b && x) && (c && y) && (d && z) && (e && v)) ≡ ((a && b && c && d && e) && (w && x && y && z && v))
-    five a b c d e w x y z v =
-        ap (λ (t : Bool). t && (c && y) && (d && z) && (e && v)) (and-swap a w b x) ∙ ap (λ (t : Bool). t && (d && z) && (e && v)) (and-swap (a && b) (w && x) c y)
-        ∙ ap (λ (t : Bool). t && (e && v)) (and-swap (a && b && c) (w && x && y) d z) ∙ and-swap (a && b && c && d) (w && x && y && z) e v
+    four : (a b c d w x y z : Bool) → ((a && w) && (b && x) && (c && y) && (d && z)) ≡ ((a && b && c && d) && (w && x && y && z))
+    four a b c d w x y z =
+        ap (λ (t : Bool). t && (c && y) && (d && z)) (and-swap a w b x) ∙ ap (λ (t : Bool). t && (d && z)) (and-swap (a && b) (w && x) c y)
+        ∙ and-swap (a && b && c) (w && x && y) d z
+
+-- the words behind the first four are tested with the fields
+with-fields : (q t w v : Bool) → ((q && t) && (w && v)) ≡ ((q && (t && v)) && w)
+with-fields true true true true = refl
+with-fields true true true false = refl
+with-fields true true false true = refl
+with-fields true true false false = refl
+with-fields true false w v = refl
+with-fields false t w v = refl
 
 faults-apart : (n f : ℕ) → eqb (n + f) 0 ≡ (eqb n 0 && eqb f 0)
 faults-apart zero f = rw zero-add
@@ -157,16 +177,16 @@ module _ (least p next : ℕ) (hp : p < 2 ^ 64) (hn : next ≡ (p + 1) % 2 ^ 64)
 -- ---- the loop
 
 -- What is asked of all `count` slots is that the faults and sums so far are none, and what is asked of the `left` slots from offset `at` on.
-pub record Checked (cap : ℕ) (m : List ℕ) (count low left least at faults a b c d e : ℕ) : Type 0 where
+pub record Checked (cap : ℕ) (m : List ℕ) (count low left least at faults a b c d : ℕ) : Type 0 where
   pub so : goodSlots cap count low (drop 24 m)
-      ≡ ((eqb faults 0 && (eqb a 0 && eqb b 0 && eqb c 0 && eqb d 0 && eqb e 0) && leb least limit) && goodSlots cap left least (drop at m))
+      ≡ ((eqb faults 0 && (eqb a 0 && eqb b 0 && eqb c 0 && eqb d 0) && leb least limit) && goodSlots cap left least (drop at m))
   pub room : at + left * slotSize cap ≤ length m
   pub few : faults + left ≤ count
 
-pub checked-none : (cap : ℕ) (m : List ℕ) (count low : ℕ) → low ≤ limit → 24 + count * slotSize cap ≤ length m → Checked cap m count low count low 24 0 0 0 0 0 0
+pub checked-none : (cap : ℕ) (m : List ℕ) (count low : ℕ) → low ≤ limit → 24 + count * slotSize cap ≤ length m → Checked cap m count low count low 24 0 0 0 0 0
 checked-none cap m count low l h = record { so = rw (le-leb low limit l); room = h; few = omega arith }
 
-module _ {cap : ℕ} {m : List ℕ} {count low left least at faults a b c d e : ℕ} (k : Checked cap m count low left least at faults a b c d e) where
+module _ {cap : ℕ} {m : List ℕ} {count low left least at faults a b c d : ℕ} (k : Checked cap m count low left least at faults a b c d) where
   slots-step : 0 < left → (p : ℕ) → p ≡ le 8 (drop at m)
       → goodSlots cap left least (drop at m) ≡ (goodSlot cap least (drop at m) && goodSlots cap (left - 1) (p + 1) (drop (at + slotSize cap) m))
   unfolding goodSlots
@@ -185,28 +205,31 @@ module _ {cap : ℕ} {m : List ℕ} {count low left least at faults a b c d e : 
   checked-room h = omega (arith, checked-left h)
 
   pub checked-more : 0 < left → 32 ≤ cap → cap ≤ 80 → Bytes m → (full : List ℕ) → full ≡ ruler → (p next tag n f w x y z v : ℕ) (t : Bool) → p < 2 ^ 64
-      → p ≡ le 8 (drop at m) → next ≡ (p + 1) % 2 ^ 64 → tag ≡ le 8 (drop (at + 8) m) → n ≤ cap → (tag / 256 ≤ cap → n ≡ tag / 256)
-      → t ≡ goodFields cap 0 0 (tag % 256) (tag / 256) → f ≤ 1 → eqb f 0 ≡ (ltb least next && t)
-      → w ≡ bitAnd (le 8 (drop (at + 16) m)) (le 8 (drop (80 - n) full)) → x ≡ bitAnd (le 8 (drop (at + 24) m)) (le 8 (drop (80 - n + 8) full))
-      → y ≡ bitAnd (le 8 (drop (at + 32) m)) (le 8 (drop (80 - n + 16) full)) → z ≡ bitAnd (le 8 (drop (at + 40) m)) (le 8 (drop (80 - n + 24) full))
-      → eqb v 0 ≡ zeros (cap - 32 - (80 - (80 - n + 32))) (drop (at + 48 + (80 - (80 - n + 32))) m)
-      → Checked cap m count low (left - 1) next (at + slotSize cap) (faults + f) (bitOr a w) (bitOr b x) (bitOr c y) (bitOr d z) (bitOr e v)
+      → p ≡ le 8 (drop at m) → next ≡ (p + 1) % 2 ^ 64 → tag ≡ le 8 (drop (at + 8) m) → n ≤ 127 → (1 ≤ tag % 256 → tag / 256 ≤ 80 → n ≡ tag / 256)
+      → t ≡ goodFields cap 0 0 (tag % 256) (tag / 256) → f ≤ 1 → eqb f 0 ≡ ((ltb least next && t) && eqb v 0)
+      → w ≡ bitAnd (le 8 (drop (at + 16) m)) (le 8 (drop (128 - n) full)) → x ≡ bitAnd (le 8 (drop (at + 24) m)) (le 8 (drop (128 - n + 8) full))
+      → y ≡ bitAnd (le 8 (drop (at + 32) m)) (le 8 (drop (128 - n + 16) full)) → z ≡ bitAnd (le 8 (drop (at + 40) m)) (le 8 (drop (128 - n + 24) full))
+      → eqb v 0 ≡ zeros (cap - 32 - (128 - (128 - n + 32))) (drop (at + 48 + (128 - (128 - n + 32))) m)
+      → Checked cap m count low (left - 1) next (at + slotSize cap) (faults + f) (bitOr a w) (bitOr b x) (bitOr c y) (bitOr d z)
   checked-more h c32 c80 by full r p next tag n f w x y z v t hp ep en et hn hl eh hf ef ew ex ey ez ev =
       let room = checked-left h in
       let up : (i j : ℕ) → at + i + j ≡ at + (i + j) = λ i j. omega arith in
-      let words = rest-words n (at + 16) m full by r cap (le-trans hn c80) c32 w x y z v ew (rw (up 16 8) ex) (rw (up 16 16) ey) (rw (up 16 24) ez) (rw (up 16 32) ev) in
-      let slot = slot-words cap least at m by (omega arith) (omega arith) p tag n _ _ ep et (sym (fields-apart cap least p (tag % 256) (tag / 256))) hl words in
+      let words = rest-words n (at + 16) m full by r cap (omega arith) c32 w x y z v ew (rw (up 16 8) ex) (rw (up 16 16) ey) (rw (up 16 24) ez) (rw (up 16 32) ev) in
+      let slot = slot-words cap least at m by (omega arith) (omega arith) p tag n _ _ ep et (sym (fields-apart cap least p (tag % 256) (tag / 256))) (λ k l. hl k (le-trans l c80)) words in
+      let own : goodSlot cap least (drop at m) ≡ (((leb least p && ltb p limit) && (t && eqb v 0)) && (eqb w 0 && eqb x 0 && eqb y 0 && eqb z 0))
+      = sym slot ∙ rw (← eh) (with-fields (leb least p && ltb p limit) t (eqb w 0 && eqb x 0 && eqb y 0 && eqb z 0) (eqb v 0)) in
+      let faulty : eqb f 0 ≡ (ltb least next && (t && eqb v 0)) = ef ∙ and-assoc (ltb least next) t (eqb v 0) in
       record {
-        so = k .so ∙ rw (slots-step h p ep, ← slot, ← eh, faults-apart faults f, ef, sums-apart a b c d e w x y z v)
+        so = k .so ∙ rw (slots-step h p ep, own, faults-apart faults f, faulty, sums-apart a b c d w x y z)
             (rises least p next hp en (λ (q : ℕ). goodSlots cap (left - 1) q (drop (at + slotSize cap) m)) (eqb faults 0)
-            (eqb a 0 && eqb b 0 && eqb c 0 && eqb d 0 && eqb e 0) t
-            (eqb w 0 && eqb x 0 && eqb y 0 && eqb z 0 && eqb v 0) (leb least p && ltb p limit) refl);
+            (eqb a 0 && eqb b 0 && eqb c 0 && eqb d 0) (t && eqb v 0)
+            (eqb w 0 && eqb x 0 && eqb y 0 && eqb z 0) (leb least p && ltb p limit) refl);
         room = room;
         few = omega (arith, k .few);
       }
 
   pub checked-all : (z : Bool) → left ≤ 0 → z ≡ zeros (length m - at) (drop at m)
-      → (eqb faults 0 && (eqb a 0 && eqb b 0 && eqb c 0 && eqb d 0 && eqb e 0) && leb least limit && z) ≡ goodSlots cap count low (drop 24 m)
+      → (eqb faults 0 && (eqb a 0 && eqb b 0 && eqb c 0 && eqb d 0) && leb least limit && z) ≡ goodSlots cap count low (drop 24 m)
   unfolding goodSlots
   checked-all z h y =
       let l : left ≡ 0 = omega arith in

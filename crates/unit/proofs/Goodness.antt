@@ -60,7 +60,7 @@ tag-parts at m h =
 -- The test of a slot by its words: f is the test of its fields as the second word, tag, has them; z that of its payload behind n bytes, last that behind
 -- its length.
 words-test : (cap low p tag kind len rest n : ℕ) (f z last : Bool) → cap < 256 → kind < 256 → len < 256 → tag ≡ kind + 256 * (len + 256 * rest)
-    → f ≡ goodFields cap low p (tag % 256) (tag / 256) → (tag / 256 ≤ cap → n ≡ tag / 256) → (n ≡ len → z ≡ last)
+    → f ≡ goodFields cap low p (tag % 256) (tag / 256) → (1 ≤ tag % 256 → tag / 256 ≤ cap → n ≡ tag / 256) → (n ≡ len → z ≡ last)
     → (f && z) ≡ (goodFields cap low p kind len && (leb rest 0 && last))
 words-test cap low p tag kind len rest n f z last c hk hl ht hf hn hz = go (leb rest 0) refl (leb len cap) refl
   where
@@ -76,12 +76,22 @@ words-test cap low p tag kind len rest n f z last c hk hl ht hf hn hz = go (leb 
     long h = fields ∙ fields-long cap low p kind (len + 256 * rest) h
 
     go : (s : Bool) → leb rest 0 ≡ s → (t : Bool) → leb len cap ≡ t → (f && z) ≡ (goodFields cap low p kind len && (leb rest 0 && last))
-    go true e true g =
-        let e0 = leb-true rest 0 e in
-        let g0 = leb-true len cap g in
-        let l : len + 256 * rest ≡ len = omega arith in
-        let k : n ≡ len = hn (omega (arith, others)) ∙ others ∙ l in
-        sym (rw (e, hz k, fields, l))
+    go true e true g = pick f refl
+      where
+        one : len + 256 * rest ≡ len
+        one = omega (arith, leb-true rest 0 e)
+
+        same : f ≡ goodFields cap low p kind len
+        same = fields ∙ rw one
+
+        pick : (b : Bool) → f ≡ b → (f && z) ≡ (goodFields cap low p kind len && (leb rest 0 && last))
+        pick true q =
+            let y = fields-good cap low p kind len (sym same ∙ q) in
+            let k : n ≡ len = hn (omega arith) (omega (arith, others, one, y .fits)) ∙ others ∙ one in
+            sym (rw (e, hz k, fields, one))
+        pick false q =
+            let y : goodFields cap low p kind len ≡ false = sym same ∙ q in
+            sym (rw (y, q))
     go true e false g =
         let g0 = leb-false len cap g in
         sym (rw (fields-long cap low p kind len g0, long (omega arith)))
@@ -90,8 +100,8 @@ words-test cap low p tag kind len rest n f z last c hk hl ht hf hn hz = go (leb 
         sym (rw (e, and-false, long (omega arith)))
 
 pub slot-words : (cap low at : ℕ) (m : List ℕ) → Bytes m → at + 16 ≤ length m → cap < 256 → (p tag n : ℕ) (f z : Bool)
-    → p ≡ le 8 (drop at m) → tag ≡ le 8 (drop (at + 8) m) → f ≡ goodFields cap low p (tag % 256) (tag / 256) → (tag / 256 ≤ cap → n ≡ tag / 256)
-    → z ≡ zeros (cap - n) (drop (at + 16 + n) m) → (f && z) ≡ goodSlot cap low (drop at m)
+    → p ≡ le 8 (drop at m) → tag ≡ le 8 (drop (at + 8) m) → f ≡ goodFields cap low p (tag % 256) (tag / 256)
+    → (1 ≤ tag % 256 → tag / 256 ≤ cap → n ≡ tag / 256) → z ≡ zeros (cap - n) (drop (at + 16 + n) m) → (f && z) ≡ goodSlot cap low (drop at m)
 slot-words cap low at m by r c p tag n f z hp ht hf hn hz =
     words-test cap low p tag (getD m (at + 8) 0) (getD m (at + 9) 0) (le 6 (drop (at + 10) m)) n f z
     (zeros (cap - getD m (at + 9) 0) (drop (at + 16 + getD m (at + 9) 0) m)) c (by (at + 8) .fits) (by (at + 9) .fits) (ht ∙ tag-parts at m r) hf hn

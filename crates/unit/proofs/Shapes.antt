@@ -10,12 +10,12 @@ use Rattle.unit.specs.Shape.{Shape, small, large, shapeFor, shapeOf, mem
 use Rattle.unit.specs.Memory.{good, codeOf}
 use Rattle.unit.proofs.Goodness.{is-good}
 
--- either is as long, its payload is at least four words and so many pairs of them, a page in a letter and a byte for its length hold a payload, and two bytes hold the count of slots
+-- either is as long, its payload is four words, or six more, a page in a letter and a byte for its length hold a payload, and two bytes hold the count of slots
 pub record Sized (sh : Shape) : Type 0 where
   pub whole : memorySize sh ≡ 6168
   pub page : sh .cap ≤ 80
   pub four : 32 ≤ sh .cap
-  pub pairs : sh .cap % 16 ≡ 0
+  pub lines : sh .cap % 48 ≡ 32
   pub cap : sh .cap ≤ 255
   pub room : sh .room < 256 ^ 2
 
@@ -24,8 +24,8 @@ unfolding shapeFor
 sized code = go (eqb code 1)
   where
     go : (b : Bool) → Sized (cond b large small)
-    go true = record { whole = refl; page = omega arith; four = omega arith; pairs = refl; cap = omega arith; room = omega arith }
-    go false = record { whole = refl; page = omega arith; four = omega arith; pairs = refl; cap = omega arith; room = omega arith }
+    go true = record { whole = refl; page = omega arith; four = omega arith; lines = refl; cap = omega arith; room = omega arith }
+    go false = record { whole = refl; page = omega arith; four = omega arith; lines = refl; cap = omega arith; room = omega arith }
 
 -- a shape that its byte names: small and large are the two
 abbrev pub Known : Shape → Type 0

@@ -96,29 +96,29 @@ all-at f (suc n) k h l = go (eqb k n) refl (λ below. all-at f n k (and-both (f 
 
 -- a word of the ruler
 ruled : ℕ → Bool
-ruled j = eqb (le 8 (drop j ruler)) (past (80 - j) 8)
+ruled j = eqb (le 8 (drop j ruler)) (past (128 - j) 8)
 
-ruler-ruled : all ruled 153 ≡ true
+ruler-ruled : all ruled 201 ≡ true
 unfolding all ruled le ruler past
 ruler-ruled = refl
 
-ruler-word : (j : ℕ) → j < 153 → le 8 (drop j ruler) ≡ past (80 - j) 8
+ruler-word : (j : ℕ) → j < 201 → le 8 (drop j ruler) ≡ past (128 - j) 8
 unfolding ruled
-ruler-word j h = eqb-true _ _ (all-at ruled 153 j ruler-ruled h)
+ruler-word j h = eqb-true _ _ (all-at ruled 201 j ruler-ruled h)
 
-pub ruler-length : length ruler ≡ 160
+pub ruler-length : length ruler ≡ 208
 unfolding ruler
 ruler-length = refl
 
-pub ruler-made : sets (replicate 160 255) 0 (replicate 80 0) ≡ ruler
+pub ruler-made : sets (replicate 208 255) 0 (replicate 128 0) ≡ ruler
 unfolding ruler
 ruler-made = refl
 
 -- a word of the memory under the ruler's
-word-past : (k j at : ℕ) (m full : List ℕ) → Bytes m → full ≡ ruler → j < 153 → k ≡ 80 - j → (w : ℕ)
+word-past : (k j at : ℕ) (m full : List ℕ) → Bytes m → full ≡ ruler → j < 201 → k ≡ 128 - j → (w : ℕ)
     → w ≡ bitAnd (le 8 (drop at m)) (le 8 (drop j full)) → eqb w 0 ≡ zeros (8 - k) (drop k (drop at m))
 word-past k j at m full by e h ek w ew =
-    rw (ek, ew, e, ruler-word j h) (and-past (80 - j) 8 (drop at m) (bytes-drop at m by))
+    rw (ek, ew, e, ruler-word j h) (and-past (128 - j) 8 (drop at m) (bytes-drop at m by))
 
 -- ---- runs one behind the other
 
@@ -152,13 +152,13 @@ or-none (suc a) b = ne-eqb (bitOr (suc a) b) 0 (λ z. more z (or-add-and (suc a)
     more z e l = omega arith
 
 -- ---- the words of a payload of which all but the first n bytes are to be zero: `so` is that of its first i bytes
-rest-none : (n at : ℕ) (m : List ℕ) → true ≡ zeros (0 - n) (drop (at + n) m)
+pub rest-none : (n at : ℕ) (m : List ℕ) → true ≡ zeros (0 - n) (drop (at + n) m)
 unfolding zeros
 rest-none n at m = rw zero-sub
 
 module _ (n at : ℕ) (m full : List ℕ) (by : Bytes m) (e : full ≡ ruler) where
   -- one word more
-  pub rest-next : (i o j : ℕ) (so : Bool) → so ≡ zeros (i - n) (drop (at + n) m) → j < 153 → o ≡ at + i → n - i ≡ 80 - j → (w : ℕ)
+  pub rest-next : (i o j : ℕ) (so : Bool) → so ≡ zeros (i - n) (drop (at + n) m) → j < 201 → o ≡ at + i → n - i ≡ 128 - j → (w : ℕ)
       → w ≡ bitAnd (le 8 (drop o m)) (le 8 (drop j full)) → (so && eqb w 0) ≡ zeros (i + 8 - n) (drop (at + n) m)
   rest-next i o j so h l eo ej w ew =
       let r = drop at m in
@@ -167,67 +167,48 @@ module _ (n at : ℕ) (m full : List ℕ) (by : Bytes m) (e : full ≡ ruler) wh
       let q : so ≡ zeros (i - n) (drop n r) = rw (← drop-drop n at m) at h in
       sym (rw (← drop-drop n at m) (zeros-past i 8 n r ∙ rw (← q, ← x)))
 
-  rest-four : n ≤ 80 → (a b c d : ℕ)
-      → a ≡ bitAnd (le 8 (drop at m)) (le 8 (drop (80 - n) full)) → b ≡ bitAnd (le 8 (drop (at + 8) m)) (le 8 (drop (80 - n + 8) full))
-      → c ≡ bitAnd (le 8 (drop (at + 16) m)) (le 8 (drop (80 - n + 16) full)) → d ≡ bitAnd (le 8 (drop (at + 24) m)) (le 8 (drop (80 - n + 24) full))
+  -- k: where the ruler's n empty bytes begin
+  rest-four : (k : ℕ) → n ≡ 128 - k → k + 32 ≤ 208 → (a b c d : ℕ)
+      → a ≡ bitAnd (le 8 (drop at m)) (le 8 (drop k full)) → b ≡ bitAnd (le 8 (drop (at + 8) m)) (le 8 (drop (k + 8) full))
+      → c ≡ bitAnd (le 8 (drop (at + 16) m)) (le 8 (drop (k + 16) full)) → d ≡ bitAnd (le 8 (drop (at + 24) m)) (le 8 (drop (k + 24) full))
       → (eqb a 0 && eqb b 0 && eqb c 0 && eqb d 0) ≡ zeros (32 - n) (drop (at + n) m)
-  rest-four l a b c d ea eb ec ed =
-      rest-next 24 (at + 24) (80 - n + 24) _
-      (rest-next 16 (at + 16) (80 - n + 16) _
-      (rest-next 8 (at + 8) (80 - n + 8) _
-      (rest-next 0 at (80 - n) true (rest-none n at m) (omega arith) (omega arith) (omega arith) a ea)
+  rest-four k en l a b c d ea eb ec ed =
+      rest-next 24 (at + 24) (k + 24) _
+      (rest-next 16 (at + 16) (k + 16) _
+      (rest-next 8 (at + 8) (k + 8) _
+      (rest-next 0 at k true (rest-none n at m) (omega arith) (omega arith) (omega arith) a ea)
       (omega arith) (omega arith) (omega arith) b eb)
       (omega arith) (omega arith) (omega arith) c ec)
       (omega arith) (omega arith) (omega arith) d ed
 
+  -- six words, joined
+  pub rest-six : (k : ℕ) → n ≡ 128 - k → k + 48 ≤ 208 → (a b c d f g : ℕ)
+      → a ≡ bitAnd (le 8 (drop at m)) (le 8 (drop k full)) → b ≡ bitAnd (le 8 (drop (at + 8) m)) (le 8 (drop (k + 8) full))
+      → c ≡ bitAnd (le 8 (drop (at + 16) m)) (le 8 (drop (k + 16) full)) → d ≡ bitAnd (le 8 (drop (at + 24) m)) (le 8 (drop (k + 24) full))
+      → f ≡ bitAnd (le 8 (drop (at + 32) m)) (le 8 (drop (k + 32) full)) → g ≡ bitAnd (le 8 (drop (at + 40) m)) (le 8 (drop (k + 40) full))
+      → eqb (bitOr (bitOr (bitOr (bitOr (bitOr a b) c) d) f) g) 0 ≡ zeros (48 - n) (drop (at + n) m)
+  rest-six k en l a b c d f g ea eb ec ed ef eg =
+      let four = rest-four k en (omega arith) a b c d ea eb ec ed in
+      let five = rest-next 32 (at + 32) (k + 32) _ four (omega arith) (omega arith) (omega arith) f ef in
+      let six = rest-next 40 (at + 40) (k + 40) _ five (omega arith) (omega arith) (omega arith) g eg in
+      simp or-none six
+
   -- four words, and what is joined of the others
-  pub rest-words : (cap : ℕ) → n ≤ 80 → 32 ≤ cap → (a b c d v : ℕ)
-      → a ≡ bitAnd (le 8 (drop at m)) (le 8 (drop (80 - n) full)) → b ≡ bitAnd (le 8 (drop (at + 8) m)) (le 8 (drop (80 - n + 8) full))
-      → c ≡ bitAnd (le 8 (drop (at + 16) m)) (le 8 (drop (80 - n + 16) full)) → d ≡ bitAnd (le 8 (drop (at + 24) m)) (le 8 (drop (80 - n + 24) full))
-      → eqb v 0 ≡ zeros (cap - 32 - (80 - (80 - n + 32))) (drop (at + 32 + (80 - (80 - n + 32))) m)
+  pub rest-words : (cap : ℕ) → n ≤ 128 → 32 ≤ cap → (a b c d v : ℕ)
+      → a ≡ bitAnd (le 8 (drop at m)) (le 8 (drop (128 - n) full)) → b ≡ bitAnd (le 8 (drop (at + 8) m)) (le 8 (drop (128 - n + 8) full))
+      → c ≡ bitAnd (le 8 (drop (at + 16) m)) (le 8 (drop (128 - n + 16) full)) → d ≡ bitAnd (le 8 (drop (at + 24) m)) (le 8 (drop (128 - n + 24) full))
+      → eqb v 0 ≡ zeros (cap - 32 - (128 - (128 - n + 32))) (drop (at + 32 + (128 - (128 - n + 32))) m)
       → (eqb a 0 && eqb b 0 && eqb c 0 && eqb d 0 && eqb v 0) ≡ zeros (cap - n) (drop (at + n) m)
   rest-words cap l h a b c d v ea eb ec ed ev =
       let r = drop at m in
-      let k : 80 - (80 - n + 32) ≡ n - 32 = omega arith in
+      let k : 128 - (128 - n + 32) ≡ n - 32 = omega arith in
       let g : 32 + (cap - 32) ≡ cap = omega arith in
-      let four : (eqb a 0 && eqb b 0 && eqb c 0 && eqb d 0) ≡ zeros (32 - n) (drop n r) = rw (← drop-drop n at m) at (rest-four l a b c d ea eb ec ed) in
+      let four : (eqb a 0 && eqb b 0 && eqb c 0 && eqb d 0) ≡ zeros (32 - n) (drop n r)
+      = rw (← drop-drop n at m) at (rest-four (128 - n) (omega arith) (omega arith) a b c d ea eb ec ed) in
       let rest : eqb v 0 ≡ zeros (cap - 32 - (n - 32)) (drop (n - 32) (drop 32 r)) = ev ∙ rw (k, ← drop-drop (n - 32) (at + 32) m, ← drop-drop 32 at m) in
       let all : zeros (32 + (cap - 32) - n) (drop n r) ≡ (eqb a 0 && eqb b 0 && eqb c 0 && eqb d 0 && eqb v 0)
       = zeros-past 32 (cap - 32) n r ∙ rw (← four, ← rest) in
       sym (rw (← drop-drop n at m) (ap (λ (q : ℕ). zeros (q - n) (drop n r)) (sym g) ∙ all))
-
--- The loop that joins them, two a turn: i bytes are tested.
-pub record Rested (m : List ℕ) (size at n i sum : ℕ) : Type 0 where
-  pub tested : eqb sum 0 ≡ zeros (i - n) (drop (at + n) m)
-  pub even : i % 16 ≡ 0
-  pub bound : i ≤ size
-
-pub rested-none : (m : List ℕ) (size at n : ℕ) → Rested m size at n 0 0
-rested-none m size at n = record { tested = rest-none n at m; even = refl; bound = omega arith }
-
-module _ {m : List ℕ} {size at n i sum : ℕ} (t : Rested m size at n i sum) where
-  -- the next two words lie within the payload
-  pub rested-room : i < size → size % 16 ≡ 0 → i + 16 ≤ size
-  rested-room h e = omega (arith, t .even)
-
-  pub rested-more : (full : List ℕ) (k : ℕ) → Bytes m → full ≡ ruler → n ≡ 80 - k → k + size ≤ 160 → i < size → size % 16 ≡ 0 → (a b : ℕ)
-      → a ≡ bitAnd (le 8 (drop (at + i) m)) (le 8 (drop (k + i) full)) → b ≡ bitAnd (le 8 (drop (at + i + 8) m)) (le 8 (drop (k + i + 8) full))
-      → Rested m size at n (i + 16) (bitOr (bitOr sum a) b)
-  rested-more full k by e en r h s16 a b ea eb =
-      let l = rested-room h s16 in
-      let v = t .even in
-      let g : i + 8 + 8 ≡ i + 16 = omega arith in
-      let x : (eqb sum 0 && eqb a 0) ≡ zeros (i + 8 - n) (drop (at + n) m)
-      = rest-next n at m full by e i (at + i) (k + i) (eqb sum 0) (t .tested) (omega arith) (omega arith) (omega arith) a ea in
-      let y : (eqb sum 0 && eqb a 0 && eqb b 0) ≡ zeros (i + 8 + 8 - n) (drop (at + n) m)
-      = rest-next n at m full by e (i + 8) (at + i + 8) (k + i + 8) (eqb sum 0 && eqb a 0) x (omega arith) (omega arith) (omega arith) b eb in
-      record { tested = or-none (bitOr sum a) b ∙ rw (or-none sum a) (rw g at y); even = omega arith; bound = omega arith }
-
-  pub rested-all : size ≤ i → eqb sum 0 ≡ zeros (size - n) (drop (at + n) m)
-  rested-all h =
-      let b = t .bound in
-      let g : i ≡ size = omega arith in
-      rw g at (t .tested)
 
 -- ---- bytes joined by `|`
 
@@ -244,52 +225,44 @@ joined-more {mem} {at} {i} {seen} t h =
     let l : i < length (drop at mem) = rw length-drop (omega arith) in
     record { so = or-none seen (getD mem (at + i) 0) ∙ rw (add-one, zeros-snoc i (drop at mem) l, getD-drop at mem i 0, t .so) }
 
--- six such loops in one, over runs of `part` bytes one behind the other
-pub record Six (mem : List ℕ) (at part i a b c d e f : ℕ) : Type 0 where
+-- four such loops in one, over runs of `part` bytes one behind the other
+pub record Four (mem : List ℕ) (at part i a b c d : ℕ) : Type 0 where
   pub bound : i ≤ part
   pub ja : Joined mem at i a
   pub jb : Joined mem (at + part) i b
   pub jc : Joined mem (at + part + part) i c
   pub jd : Joined mem (at + part + part + part) i d
-  pub je : Joined mem (at + part + part + part + part) i e
-  pub jf : Joined mem (at + part + part + part + part + part) i f
 
-pub six-none : (mem : List ℕ) (at part : ℕ) → Six mem at part 0 0 0 0 0 0 0
-six-none mem at part =
+pub four-none : (mem : List ℕ) (at part : ℕ) → Four mem at part 0 0 0 0 0
+four-none mem at part =
     let j = joined-none mem in
-    record { bound = omega arith; ja = j _; jb = j _; jc = j _; jd = j _; je = j _; jf = j _ }
+    record { bound = omega arith; ja = j _; jb = j _; jc = j _; jd = j _ }
 
-six-runs : (at p : ℕ) (m : List ℕ) (a b c d e f : Bool) → a ≡ zeros p (drop at m) → b ≡ zeros p (drop (at + p) m) → c ≡ zeros p (drop (at + p + p) m)
-    → d ≡ zeros p (drop (at + p + p + p) m) → e ≡ zeros p (drop (at + p + p + p + p) m) → f ≡ zeros p (drop (at + p + p + p + p + p) m)
-    → (a && b && c && d && e && f) ≡ zeros (6 * p) (drop at m)
-six-runs at p m a b c d e f ea eb ec ed ee ef =
-    let n : 6 * p ≡ p + (p + (p + (p + (p + p)))) = omega arith in
-    let q4 = zeros-run p p (at + p + p + p + p) m in
-    let q3 = zeros-run p (p + p) (at + p + p + p) m in
-    let q2 = zeros-run p (p + (p + p)) (at + p + p) m in
-    let q1 = zeros-run p (p + (p + (p + p))) (at + p) m in
-    let q0 = zeros-run p (p + (p + (p + (p + p)))) at m in
-    and-assoc (a && b && c && d) e f ∙ and-assoc (a && b && c) d (e && f) ∙ and-assoc (a && b) c (d && (e && f)) ∙ and-assoc a b (c && (d && (e && f)))
-    ∙ sym (rw (n, q0, q1, q2, q3, q4, ← ea, ← eb, ← ec, ← ed, ← ee, ← ef))
+four-runs : (at p : ℕ) (m : List ℕ) (a b c d : Bool) → a ≡ zeros p (drop at m) → b ≡ zeros p (drop (at + p) m) → c ≡ zeros p (drop (at + p + p) m)
+    → d ≡ zeros p (drop (at + p + p + p) m) → (a && b && c && d) ≡ zeros (4 * p) (drop at m)
+four-runs at p m a b c d ea eb ec ed =
+    let n : 4 * p ≡ p + (p + (p + p)) = omega arith in
+    let q2 = zeros-run p p (at + p + p) m in
+    let q1 = zeros-run p (p + p) (at + p) m in
+    let q0 = zeros-run p (p + (p + p)) at m in
+    and-assoc (a && b) c d ∙ and-assoc a b (c && d) ∙ sym (rw (n, q0, q1, q2, ← ea, ← eb, ← ec, ← ed))
 
-module _ {mem : List ℕ} {at part i a b c d e f : ℕ} (s : Six mem at part i a b c d e f) where
-  pub six-more : i < part → at + 6 * part ≤ length mem
-      → Six mem at part (i + 1) (bitOr a (getD mem (at + i) 0)) (bitOr b (getD mem (at + part + i) 0)) (bitOr c (getD mem (at + part + part + i) 0))
-      (bitOr d (getD mem (at + part + part + part + i) 0)) (bitOr e (getD mem (at + part + part + part + part + i) 0)) (bitOr f (getD mem (at + part + part + part + part + part + i) 0))
-  six-more h l =
+module _ {mem : List ℕ} {at part i a b c d : ℕ} (s : Four mem at part i a b c d) where
+  pub four-more : i < part → at + 4 * part ≤ length mem
+      → Four mem at part (i + 1) (bitOr a (getD mem (at + i) 0)) (bitOr b (getD mem (at + part + i) 0)) (bitOr c (getD mem (at + part + part + i) 0))
+      (bitOr d (getD mem (at + part + part + part + i) 0))
+  four-more h l =
       record {
         bound = omega arith;
         ja = joined-more (s .ja) (omega arith);
         jb = joined-more (s .jb) (omega arith);
         jc = joined-more (s .jc) (omega arith);
         jd = joined-more (s .jd) (omega arith);
-        je = joined-more (s .je) (omega arith);
-        jf = joined-more (s .jf) (omega arith);
       }
 
-  pub six-all : part ≤ i → (eqb a 0 && eqb b 0 && eqb c 0 && eqb d 0 && eqb e 0 && eqb f 0) ≡ zeros (6 * part) (drop at mem)
-  six-all h =
+  pub four-all : part ≤ i → (eqb a 0 && eqb b 0 && eqb c 0 && eqb d 0) ≡ zeros (4 * part) (drop at mem)
+  four-all h =
       let k = s .bound in
       let n : i ≡ part = omega arith in
       let to : (o x : ℕ) → Joined mem o i x → eqb x 0 ≡ zeros part (drop o mem) = λ o x j. j .so ∙ ap (λ (t : ℕ). zeros t (drop o mem)) n in
-      six-runs at part mem _ _ _ _ _ _ (to _ _ (s .ja)) (to _ _ (s .jb)) (to _ _ (s .jc)) (to _ _ (s .jd)) (to _ _ (s .je)) (to _ _ (s .jf))
+      four-runs at part mem _ _ _ _ (to _ _ (s .ja)) (to _ _ (s .jb)) (to _ _ (s .jc)) (to _ _ (s .jd))

@@ -1,6 +1,6 @@
 // Good memory, and the unit that it holds.
 ghost use mathlib.Core.Path.{_≡_};
-ghost use Prim.Native.Nat.{_+_, _*_, _-_, _/_, _%_, _<_, _≤_};
+ghost use Prim.Native.Nat.{_+_, _*_, _-_, _/_, _%_, _^_, _<_, _≤_};
 ghost use lib.Bits.{bitAnd};
 ghost use lib.Dec.{eqb};
 ghost use lib.ListN.{length, drop};
@@ -30,21 +30,22 @@ impl Unit {
     pub const SIZE: usize = 6168;
 }
 
-// Whether a slot of `cap` bytes of payload may have this second word, of its kind, its length and six zeros, whatever its position. One less and turned
+// Whether a slot of `cap` bytes of payload may have this second word, of its kind, its length and six zeros, whatever its position. `t` is one less: turned
 // by a byte it is the length where the kind is 1, and large otherwise; the other kinds have no length.
-fn good_tag(cap: usize, tag: u64) -> bool
-    requires { ⌜ cap ≤ 80 ⌝ }
+fn good_tag(cap: usize, tag: u64, t: u64) -> bool
+    requires { ⌜ (cap ≤ 80) × ((t + 1) % 2 ^ 64 ≡ tag) ⌝ }
     ensures { λ r. ⌜ r ≡ goodFields cap 0 0 (tag % 256) (tag / 256) ⌝ }
 {
-    let t = std::num::wrapping_sub_u64(tag, 1);
-    ((t / 256 + t % 256 * 72_057_594_037_927_936) as usize <= cap) | (tag / 2 == 1)
+    ((t / 256 + t % 256 * 72_057_594_037_927_936) as usize <= cap) | (t <= 2)
 }
 
-// A length that a payload of at most `cap` bytes may have, as it is; and any other as 0.
-fn short(cap: usize, len: usize) -> usize
-    ensures { λ r. ⌜ (r ≤ cap) × (len ≤ cap → r ≡ len) ⌝ }
+// The length in a good second word, from one less than it, and of any other word some number below 128. Without a test, so that the compiler has no branch to
+// make of it.
+fn length_of(tag: u64, t: u64) -> usize
+    requires { ⌜ (t + 1) % 2 ^ 64 ≡ tag ⌝ }
+    ensures { λ r. ⌜ (r ≤ 127) × (1 ≤ tag % 256 → tag / 256 ≤ 80 → r ≡ tag / 256) ⌝ }
 {
-    if len <= cap { len } else { 0 }
+    (t / 256 % 128) as usize
 }
 
 // What counts a slot that is not good.
@@ -62,18 +63,21 @@ fn masked(mem: &[u8], at: usize, full: &[u8], k: usize) -> u64
     word_at(mem, at) & word_at(full, k)
 }
 
-// The words of `size` bytes, so masked and joined, two a turn: nothing is left just where all bytes are zero but those before the ruler's full ones.
+// The six words of `size` bytes, or none, so masked and joined: nothing is left just where all bytes are zero but those before the ruler's full ones.
+// No loop: the compiler takes the test of the size out of the caller's.
 fn joined(mem: &[u8], at: usize, size: usize, full: &[u8], k: usize) -> u64
-    requires { ⌜ (at + size ≤ length (now mem)) × (now full ≡ ruler) × (k + size ≤ 160) × (size % 16 ≡ 0) ⌝ }
-    ensures { λ r. ⌜ eqb r 0 ≡ zeros (size - (80 - k)) (drop (at + (80 - k)) (now (mem .entry))) ⌝ }
+    requires { ⌜ (at + size ≤ length (now mem)) × (now full ≡ ruler) × (k + size ≤ 208) × (size % 48 ≡ 0) × (size ≤ 48) ⌝ }
+    ensures { λ r. ⌜ eqb r 0 ≡ zeros (size - (128 - k)) (drop (at + (128 - k)) (now (mem .entry))) ⌝ }
 {
-    let mut sum: u64 = 0;
-    let mut i: usize = 0;
-    while i < size {
-        sum = sum | masked(mem, at + i, full, k + i) | masked(mem, at + i + 8, full, k + i + 8);
-        i += 16;
+    if size == 0 {
+        return 0;
     }
-    sum
+    masked(mem, at, full, k)
+        | masked(mem, at + 8, full, k + 8)
+        | masked(mem, at + 16, full, k + 16)
+        | masked(mem, at + 24, full, k + 24)
+        | masked(mem, at + 32, full, k + 32)
+        | masked(mem, at + 40, full, k + 40)
 }
 
 // Whether the header is good. The count and the six zeros are one word: with another byte in it the count is too large.
@@ -92,10 +96,10 @@ fn good_header(mem: &[u8], sh: Shape) -> bool
 }
 
 // Whether `count` good slots stand behind the header, in rising position from `low` on, and zeros after them. No early exit, and a sum for each of the first
-// four words of a payload and one for the others: the compiler brings them together once, and not for each slot. A position that wraps is 0 as the next
-// one's least, and fails.
+// four words of a payload: the compiler brings them together once, and not for each slot. What is left of the others is a fault like any other. A position
+// that wraps is 0 as the next one's least, and fails.
 fn slots_good(mem: &[u8], cap: usize, count: u64, low: u64, full: &[u8]) -> bool
-    requires { ⌜ (24 + count * slotSize cap ≤ length (now mem)) × (low ≤ limit) × (now full ≡ ruler) × (32 ≤ cap) × (cap ≤ 80) × (cap % 16 ≡ 0) ⌝ }
+    requires { ⌜ (24 + count * slotSize cap ≤ length (now mem)) × (low ≤ limit) × (now full ≡ ruler) × (32 ≤ cap) × (cap ≤ 80) × (cap % 48 ≡ 32) ⌝ }
     ensures { λ r. ⌜ r ≡ goodSlots cap count low (drop 24 (now (mem .entry))) ⌝ }
 {
     let mut left = count;
@@ -106,34 +110,34 @@ fn slots_good(mem: &[u8], cap: usize, count: u64, low: u64, full: &[u8]) -> bool
     let mut b: u64 = 0;
     let mut c: u64 = 0;
     let mut d: u64 = 0;
-    let mut e: u64 = 0;
     while 0 < left {
         let next = std::num::wrapping_add_u64(word_at(mem, at), 1);
         let tag = word_at(mem, at + 8);
-        let k = 80 - short(cap, (tag / 256) as usize);
-        faults = faults + fault((least < next) & good_tag(cap, tag));
+        let t = std::num::wrapping_sub_u64(tag, 1);
+        let k = 128 - length_of(tag, t);
+        let rest = joined(mem, at + 48, cap - 32, full, k + 32);
+        faults = faults + fault((least < next) & good_tag(cap, tag, t) & (rest == 0));
         a = a | masked(mem, at + 16, full, k);
         b = b | masked(mem, at + 24, full, k + 8);
         c = c | masked(mem, at + 32, full, k + 16);
         d = d | masked(mem, at + 40, full, k + 24);
-        e = e | joined(mem, at + 48, cap - 32, full, k + 32);
         least = next;
         at += 16 + cap;
         left -= 1;
     }
     (faults == 0)
-        & ((a == 0) & (b == 0) & (c == 0) & (d == 0) & (e == 0))
+        & ((a == 0) & (b == 0) & (c == 0) & (d == 0))
         & (least <= Position::LIMIT)
         & zeros_at(mem, at, mem.len() - at)
 }
 
 // The same, with the ruler that the slots are tested by.
 fn good_slots(mem: &[u8], cap: usize, count: u64, low: u64) -> bool
-    requires { ⌜ (24 + count * slotSize cap ≤ length (now mem)) × (low ≤ limit) × (32 ≤ cap) × (cap ≤ 80) × (cap % 16 ≡ 0) ⌝ }
+    requires { ⌜ (24 + count * slotSize cap ≤ length (now mem)) × (low ≤ limit) × (32 ≤ cap) × (cap ≤ 80) × (cap % 48 ≡ 32) ⌝ }
     ensures { λ r. ⌜ r ≡ goodSlots cap count low (drop 24 (now (mem .entry))) ⌝ }
 {
-    let mut full = [255u8; 160];
-    put_zeros(&mut full, 0, 80);
+    let mut full = [255u8; 208];
+    put_zeros(&mut full, 0, 128);
     slots_good(mem, cap, count, low, &full)
 }
 

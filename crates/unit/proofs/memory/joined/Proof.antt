@@ -1,88 +1,112 @@
--- `memory::joined` meets its contract. The invariant and its steps are `Words`'s `Rested`.
-use Prim.Native.Nat.{_+_, _-_, _≤_}
-use mathlib.Core.Path.{_≡_, refl, ap, _∙_}
+-- `memory::joined` meets its contract, by the laws of `Words`.
+use Prim.Native.Nat.{ℕ, _+_, _-_}
+use mathlib.Core.Bool.{Bool}
+use mathlib.Core.Path.{_≡_, refl, sym, ap, _∙_}
+use borrow.Author.Needs.{needs}
 use native.Mathlib.Omega.{arith}
-use lib.ListN.{length}
-use Rattle.unit.proofs.Words.{Rested, rested-none, rested-room, rested-more, rested-all, ruler-length}
+use lib.ListN.{length, drop}
+use Rattle.unit.specs.Zeros.{zeros}
+use Rattle.unit.proofs.Words.{rest-none, rest-six, ruler-length}
 use Rattle.unit.proofs.memory.joined.Statement.{statement}
 use Rattle.unit.proofs.memory.joined.Tie as tie
 use Rattle.unit.proofs.memory.joined.Reads as reads
 use Rattle.unit.proofs.memory.joined.Lts as lts
 use Rattle.unit.proofs.memory.masked.Reads as masked-reads
 
-abbrev Inv-loop : tie.InvT-loop
-Inv-loop mem at size full k sum₀ i₀ sum i = Rested mem size at (80 - k) i sum
-
-abbrev μ-loop : tie.MeasureT-loop
-μ-loop mem at size full k sum₀ i₀ sum i = size - i
-
-ruled : (c : tie.Start Inv-loop μ-loop) → length (c .args .full .now) ≡ 160
+ruled : (c : tie.Start) → length (c .args .full .now) ≡ 208
 ruled c = ap length (c .pre .1) ∙ ruler-length
 
--- the two words of a turn lie within the bytes
-room : (c : tie.In-loop Inv-loop μ-loop) → c .before .loop .i + 16 ≤ c .before .before .before .before .args .size
-room c = rested-room (c .before .loop .inv) (omega arith) (c .before .before .before .before .pre .3)
+-- of the bytes of `size` those behind the first n are zero
+abbrev clear : tie.Start → ℕ → Bool
+clear s size = zeros (size - (128 - s .args .k)) (drop (s .args .at + (128 - s .args .k)) (s .args .mem .now))
 
-loop-holds : tie.Need-loop-holds Inv-loop μ-loop
-loop-holds c = rested-none _ _ _ _
+-- where there are any, there are 48
+sized : (s : tie.Start) → (s .args .size ≡ 0 → ⊥) → s .args .size ≡ 48
+sized s n = omega arith
 
-add-masked : tie.Need-add-masked Inv-loop μ-loop
-add-masked c = omega (arith, room c)
+returns : tie.Need-returns
+returns c =
+    let s = c .before .before .before in
+    rest-none (128 - s .args .k) (s .args .at) (s .args .mem .now) ∙ ap (clear s) (sym (c .if1 .taken))
 
-add-masked-2 : tie.Need-add-masked-2 Inv-loop μ-loop
-add-masked-2 c = omega (arith, room c)
+masked-requires : tie.Need-masked-requires
+masked-requires c κs = (omega (arith, sized (c .before .before .before) (c .if1 .left)), omega (arith, sized (c .before .before .before) (c .if1 .left), ruled (c .before .before .before)))
 
-masked-requires : tie.Need-masked-requires Inv-loop μ-loop
-masked-requires c κs = (omega (arith, room c), omega (arith, room c, ruled (c .before .before .before .before)))
+add-masked : tie.Need-add-masked
+add-masked c = search needs
 
-add-masked-3 : tie.Need-add-masked-3 Inv-loop μ-loop
-add-masked-3 c = omega (arith, room (c .before))
+add-masked-2 : tie.Need-add-masked-2
+add-masked-2 c = search needs
 
-add-masked-4 : tie.Need-add-masked-4 Inv-loop μ-loop
-add-masked-4 c = omega (arith, room (c .before))
+masked-requires-2 : tie.Need-masked-requires-2
+masked-requires-2 c κs = (omega (arith, sized (c .before .before .before .before) (c .before .if1 .left)), omega (arith, sized (c .before .before .before .before) (c .before .if1 .left), ruled (c .before .before .before .before)))
 
-add-masked-5 : tie.Need-add-masked-5 Inv-loop μ-loop
-add-masked-5 c = omega (arith, room (c .before))
+add-masked-3 : tie.Need-add-masked-3
+add-masked-3 c = search needs
 
-add-masked-6 : tie.Need-add-masked-6 Inv-loop μ-loop
-add-masked-6 c = omega (arith, room (c .before))
+add-masked-4 : tie.Need-add-masked-4
+add-masked-4 c = search needs
 
-masked-requires-2 : tie.Need-masked-requires-2 Inv-loop μ-loop
-masked-requires-2 c κs = (omega (arith, room (c .before)), omega (arith, room (c .before), ruled (c .before .before .before .before .before)))
+masked-requires-3 : tie.Need-masked-requires-3
+masked-requires-3 c κs = (omega (arith, sized (c .before .before .before .before .before) (c .before .before .if1 .left)), omega (arith, sized (c .before .before .before .before .before) (c .before .before .if1 .left), ruled (c .before .before .before .before .before)))
 
-add-i : tie.Need-add-i Inv-loop μ-loop
-add-i c = omega (arith, room (c .before .before))
+add-masked-5 : tie.Need-add-masked-5
+add-masked-5 c = search needs
 
-loop-less : tie.Need-loop-less Inv-loop μ-loop
-loop-less c = omega arith
+add-masked-6 : tie.Need-add-masked-6
+add-masked-6 c = search needs
 
-loop-again : tie.Need-loop-again Inv-loop μ-loop
-loop-again c =
-    let w = c .before in
-    let l = w .before .before in
+masked-requires-4 : tie.Need-masked-requires-4
+masked-requires-4 c κs = (omega (arith, sized (c .before .before .before .before .before .before) (c .before .before .before .if1 .left)), omega (arith, sized (c .before .before .before .before .before .before) (c .before .before .before .if1 .left), ruled (c .before .before .before .before .before .before)))
+
+add-masked-7 : tie.Need-add-masked-7
+add-masked-7 c = search needs
+
+add-masked-8 : tie.Need-add-masked-8
+add-masked-8 c = search needs
+
+masked-requires-5 : tie.Need-masked-requires-5
+masked-requires-5 c κs = (omega (arith, sized (c .before .before .before .before .before .before .before) (c .before .before .before .before .if1 .left)), omega (arith, sized (c .before .before .before .before .before .before .before) (c .before .before .before .before .if1 .left), ruled (c .before .before .before .before .before .before .before)))
+
+add-masked-9 : tie.Need-add-masked-9
+add-masked-9 c = search needs
+
+add-masked-10 : tie.Need-add-masked-10
+add-masked-10 c = search needs
+
+masked-requires-6 : tie.Need-masked-requires-6
+masked-requires-6 c κs = (omega (arith, sized (c .before .before .before .before .before .before .before .before) (c .before .before .before .before .before .if1 .left)), omega (arith, sized (c .before .before .before .before .before .before .before .before) (c .before .before .before .before .before .if1 .left), ruled (c .before .before .before .before .before .before .before .before)))
+
+returns-2 : tie.Need-returns-2
+returns-2 c =
+    let x = c .before .before .before .before .before in
+    let l = x .before in
     let s = l .before .before .before in
-    rested-more (l .loop .inv) (s .args .full .now) (s .args .k) (l .before .before .shared-slice-known .given) (s .pre .1) refl (s .pre .2) (omega arith) (s .pre .3)
-    (w .masked .result) (c .masked2 .result) (w .masked .ensures) (c .masked2 .ensures)
-
-returns : tie.Need-returns Inv-loop μ-loop
-returns c = rested-all (c .before .loop .inv) (omega arith)
+    rest-six (128 - s .args .k) (s .args .at) (s .args .mem .now) (s .args .full .now) (l .before .before .shared-slice-known .given) (s .pre .1)
+    (s .args .k) refl (omega (arith, sized s (l .if1 .left))) _ _ _ _ _ _
+    (x .masked .ensures) (c .before .before .before .before .masked2 .ensures) (c .before .before .before .masked3 .ensures)
+    (c .before .before .masked4 .ensures) (c .before .masked5 .ensures) (c .masked6 .ensures)
+    ∙ ap (clear s) (sym (sized s (l .if1 .left)))
 
 pub joined-spec : {M : Type 1} → statement M
 joined-spec =
     tie.close
     (tie.spec
-    Inv-loop
-    μ-loop
-    loop-holds
+    returns
+    masked-requires
     add-masked
     add-masked-2
-    masked-requires
+    masked-requires-2
     add-masked-3
     add-masked-4
+    masked-requires-3
     add-masked-5
     add-masked-6
-    masked-requires-2
-    add-i
-    loop-less
-    loop-again
-    returns)
+    masked-requires-4
+    add-masked-7
+    add-masked-8
+    masked-requires-5
+    add-masked-9
+    add-masked-10
+    masked-requires-6
+    returns-2)

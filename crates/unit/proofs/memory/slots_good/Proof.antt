@@ -12,21 +12,22 @@ use Rattle.unit.proofs.memory.slots_good.Tie as tie
 use Rattle.unit.proofs.memory.slots_good.Reads as reads
 use Rattle.unit.proofs.memory.slots_good.Lts as lts
 use Rattle.std.proofs.num.wrapping_add_u64.Reads as wrapping-add-u64-reads
+use Rattle.std.proofs.num.wrapping_sub_u64.Reads as wrapping-sub-u64-reads
 use Rattle.unit.proofs.field.zeros_at.Reads as zeros-at-reads
 use Rattle.unit.proofs.memory.fault.Reads as fault-reads
 use Rattle.unit.proofs.memory.good_tag.Reads as good-tag-reads
 use Rattle.unit.proofs.memory.masked.Reads as masked-reads
 use Rattle.unit.proofs.memory.joined.Reads as joined-reads
-use Rattle.unit.proofs.memory.short.Reads as short-reads
+use Rattle.unit.proofs.memory.length_of.Reads as length-of-reads
 use Rattle.unit.proofs.word.word_at.Reads as word-at-reads
 
 abbrev Inv-loop : tie.InvT-loop
-Inv-loop mem cap count low full left₀ least₀ at₀ faults₀ a₀ b₀ c₀ d₀ e₀ left least at faults a b c d e = Checked cap mem count low left least at faults a b c d e
+Inv-loop mem cap count low full left₀ least₀ at₀ faults₀ a₀ b₀ c₀ d₀ left least at faults a b c d = Checked cap mem count low left least at faults a b c d
 
 abbrev μ-loop : tie.MeasureT-loop
-μ-loop mem cap count low full left₀ least₀ at₀ faults₀ a₀ b₀ c₀ d₀ e₀ left least at faults a b c d e = left
+μ-loop mem cap count low full left₀ least₀ at₀ faults₀ a₀ b₀ c₀ d₀ left least at faults a b c d = left
 
-ruled : (c : tie.Start Inv-loop μ-loop) → length (c .args .full .now) ≡ 160
+ruled : (c : tie.Start Inv-loop μ-loop) → length (c .args .full .now) ≡ 208
 ruled c = ap length (c .pre .2) ∙ ruler-length
 
 -- the slot of a turn lies within the memory
@@ -48,56 +49,17 @@ add-word-at c = omega (arith, room (c .before .before))
 word-at-requires-2 : tie.Need-word-at-requires-2 Inv-loop μ-loop
 word-at-requires-2 c κs = omega (arith, room (c .before .before))
 
-short-requires : tie.Need-short-requires Inv-loop μ-loop
-short-requires c κs = search needs
+wrapping-sub-u64-requires : tie.Need-wrapping-sub-u64-requires Inv-loop μ-loop
+wrapping-sub-u64-requires c κs = search needs
+
+length-of-requires : tie.Need-length-of-requires Inv-loop μ-loop
+length-of-requires c κs = c .wrapping-sub-u64 .ensures
 
 sub-k : tie.Need-sub-k Inv-loop μ-loop
 sub-k c = omega arith
 
-good-tag-requires : tie.Need-good-tag-requires Inv-loop μ-loop
-good-tag-requires c κs = search needs
-
-fault-requires : tie.Need-fault-requires Inv-loop μ-loop
-fault-requires c κs = search needs
-
-add-faults : tie.Need-add-faults Inv-loop μ-loop
-add-faults c = omega arith
-
-add-masked : tie.Need-add-masked Inv-loop μ-loop
-add-masked c = omega (arith, room (c .before .before .before .before .before .before))
-
-masked-requires : tie.Need-masked-requires Inv-loop μ-loop
-masked-requires c κs = (omega (arith, room (c .before .before .before .before .before .before)), omega (arith, ruled (c .before .before .before .before .before .before .before .before .before .before)))
-
-add-masked-2 : tie.Need-add-masked-2 Inv-loop μ-loop
-add-masked-2 c = omega (arith, room (c .before .before .before .before .before .before .before))
-
-add-masked-3 : tie.Need-add-masked-3 Inv-loop μ-loop
-add-masked-3 c = omega (arith, room (c .before .before .before .before .before .before .before))
-
-masked-requires-2 : tie.Need-masked-requires-2 Inv-loop μ-loop
-masked-requires-2 c κs = (omega (arith, room (c .before .before .before .before .before .before .before)), omega (arith, ruled (c .before .before .before .before .before .before .before .before .before .before .before)))
-
-add-masked-4 : tie.Need-add-masked-4 Inv-loop μ-loop
-add-masked-4 c = omega (arith, room (c .before .before .before .before .before .before .before .before))
-
-add-masked-5 : tie.Need-add-masked-5 Inv-loop μ-loop
-add-masked-5 c = omega (arith, room (c .before .before .before .before .before .before .before .before))
-
-masked-requires-3 : tie.Need-masked-requires-3 Inv-loop μ-loop
-masked-requires-3 c κs = (omega (arith, room (c .before .before .before .before .before .before .before .before)), omega (arith, ruled (c .before .before .before .before .before .before .before .before .before .before .before .before)))
-
-add-masked-6 : tie.Need-add-masked-6 Inv-loop μ-loop
-add-masked-6 c = omega (arith, room (c .before .before .before .before .before .before .before .before .before))
-
-add-masked-7 : tie.Need-add-masked-7 Inv-loop μ-loop
-add-masked-7 c = omega (arith, room (c .before .before .before .before .before .before .before .before .before))
-
-masked-requires-4 : tie.Need-masked-requires-4 Inv-loop μ-loop
-masked-requires-4 c κs = (omega (arith, room (c .before .before .before .before .before .before .before .before .before)), omega (arith, ruled (c .before .before .before .before .before .before .before .before .before .before .before .before .before)))
-
 add-joined : tie.Need-add-joined Inv-loop μ-loop
-add-joined c = omega (arith, room (c .before .before .before .before .before .before .before .before .before .before))
+add-joined c = omega (arith, room (c .before .before .before .before .before))
 
 sub-joined : tie.Need-sub-joined Inv-loop μ-loop
 sub-joined c = omega arith
@@ -107,14 +69,56 @@ add-joined-2 c = omega arith
 
 joined-requires : tie.Need-joined-requires Inv-loop μ-loop
 joined-requires c κs =
-    let p = c .before .before .before .before .before .before .before .before .before .before .before .before .before .before .pre in
-    (omega (arith, room (c .before .before .before .before .before .before .before .before .before .before)), p .2, omega arith, omega arith)
+    let p = c .before .before .before .before .before .before .before .before .before .pre in
+    (omega (arith, room (c .before .before .before .before .before)), p .2, omega arith, omega arith, omega arith)
+
+good-tag-requires : tie.Need-good-tag-requires Inv-loop μ-loop
+good-tag-requires c κs = (omega arith, c .before .before .wrapping-sub-u64 .ensures)
+
+fault-requires : tie.Need-fault-requires Inv-loop μ-loop
+fault-requires c κs = search needs
+
+add-faults : tie.Need-add-faults Inv-loop μ-loop
+add-faults c = omega arith
+
+add-masked : tie.Need-add-masked Inv-loop μ-loop
+add-masked c = omega (arith, room (c .before .before .before .before .before .before .before .before))
+
+masked-requires : tie.Need-masked-requires Inv-loop μ-loop
+masked-requires c κs = (omega (arith, room (c .before .before .before .before .before .before .before .before)), omega (arith, ruled (c .before .before .before .before .before .before .before .before .before .before .before .before)))
+
+add-masked-2 : tie.Need-add-masked-2 Inv-loop μ-loop
+add-masked-2 c = omega (arith, room (c .before .before .before .before .before .before .before .before .before))
+
+add-masked-3 : tie.Need-add-masked-3 Inv-loop μ-loop
+add-masked-3 c = omega (arith, room (c .before .before .before .before .before .before .before .before .before))
+
+masked-requires-2 : tie.Need-masked-requires-2 Inv-loop μ-loop
+masked-requires-2 c κs = (omega (arith, room (c .before .before .before .before .before .before .before .before .before)), omega (arith, ruled (c .before .before .before .before .before .before .before .before .before .before .before .before .before)))
+
+add-masked-4 : tie.Need-add-masked-4 Inv-loop μ-loop
+add-masked-4 c = omega (arith, room (c .before .before .before .before .before .before .before .before .before .before))
+
+add-masked-5 : tie.Need-add-masked-5 Inv-loop μ-loop
+add-masked-5 c = omega (arith, room (c .before .before .before .before .before .before .before .before .before .before))
+
+masked-requires-3 : tie.Need-masked-requires-3 Inv-loop μ-loop
+masked-requires-3 c κs = (omega (arith, room (c .before .before .before .before .before .before .before .before .before .before)), omega (arith, ruled (c .before .before .before .before .before .before .before .before .before .before .before .before .before .before)))
+
+add-masked-6 : tie.Need-add-masked-6 Inv-loop μ-loop
+add-masked-6 c = omega (arith, room (c .before .before .before .before .before .before .before .before .before .before .before))
+
+add-masked-7 : tie.Need-add-masked-7 Inv-loop μ-loop
+add-masked-7 c = omega (arith, room (c .before .before .before .before .before .before .before .before .before .before .before))
+
+masked-requires-4 : tie.Need-masked-requires-4 Inv-loop μ-loop
+masked-requires-4 c κs = (omega (arith, room (c .before .before .before .before .before .before .before .before .before .before .before)), omega (arith, ruled (c .before .before .before .before .before .before .before .before .before .before .before .before .before .before .before)))
 
 add-at : tie.Need-add-at Inv-loop μ-loop
-add-at c = omega (arith, room (c .before .before .before .before .before .before .before .before .before .before .before))
+add-at c = omega (arith, room (c .before .before .before .before .before .before .before .before .before .before .before .before))
 
 add-at-2 : tie.Need-add-at-2 Inv-loop μ-loop
-add-at-2 c = omega (arith, room (c .before .before .before .before .before .before .before .before .before .before .before))
+add-at-2 c = omega (arith, room (c .before .before .before .before .before .before .before .before .before .before .before .before))
 
 sub-left : tie.Need-sub-left Inv-loop μ-loop
 sub-left c = omega arith
@@ -124,15 +128,17 @@ loop-less c = omega arith
 
 loop-again : tie.Need-loop-again Inv-loop μ-loop
 loop-again c =
-    let f = c .before .before .before .before .before in
-    let w = f .before .before .before in
+    let f = c .before .before .before .before in
+    let n = f .before .before .before in
+    let w = n .before .before in
     let l = w .before .before .before .before in
     let s = l .before .before .before in
-    checked-more (l .loop .inv) (omega arith) (s .pre .3) (s .pre .4) (l .before .before .shared-slice-known .given) _ (s .pre .2) _ _ _ _ _ _ _ _ _ _ _ (omega arith)
+    checked-more (l .loop .inv) (omega arith) (s .pre .3) (s .pre .4) (l .before .before .shared-slice-known .given) _ (s .pre .2) _ _ _ _ _ _ _ _ _
+    (f .before .before .joined .result) _ (omega arith)
     (w .before .before .word-at .ensures) (w .before .wrapping-add-u64 .ensures) (w .word-at2 .ensures)
-    (f .before .before .short .ensures .0) (f .before .before .short .ensures .1) (f .before .good-tag .ensures) (f .fault .ensures .0) (f .fault .ensures .1)
-    (c .before .before .before .before .masked .ensures) (c .before .before .before .masked2 .ensures) (c .before .before .masked3 .ensures) (c .before .masked4 .ensures)
-    (c .joined .ensures)
+    (n .length-of .ensures .0) (n .length-of .ensures .1) (f .before .good-tag .ensures) (f .fault .ensures .0) (f .fault .ensures .1)
+    (c .before .before .before .masked .ensures) (c .before .before .masked2 .ensures) (c .before .masked3 .ensures) (c .masked4 .ensures)
+    (f .before .before .joined .ensures)
 
 sub-zeros-at : tie.Need-sub-zeros-at Inv-loop μ-loop
 sub-zeros-at c = omega arith
@@ -154,8 +160,13 @@ slots-good-spec =
     wrapping-add-u64-requires
     add-word-at
     word-at-requires-2
-    short-requires
+    wrapping-sub-u64-requires
+    length-of-requires
     sub-k
+    add-joined
+    sub-joined
+    add-joined-2
+    joined-requires
     good-tag-requires
     fault-requires
     add-faults
@@ -170,10 +181,6 @@ slots-good-spec =
     add-masked-6
     add-masked-7
     masked-requires-4
-    add-joined
-    sub-joined
-    add-joined-2
-    joined-requires
     add-at
     add-at-2
     sub-left
