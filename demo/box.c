@@ -1,7 +1,7 @@
 /*
- * A station box that keeps its unit's memory in a file: box FOLDER
+ * A station box that keeps fixes of birds in its unit, and the unit's memory in a file: box FOLDER
  *
- * It makes the memory fresh, writes pages, starts again from the file, reads the pages back, trims, prunes and seals, shows
+ * It makes the memory fresh, writes fixes, starts again from the file, reads the fixes back, trims, prunes and seals, shows
  * each refusal by its name, and keeps a mast record in a second box. It prints an account of all this, and ends with 1
  * where something is not as it should be.
  */
@@ -11,6 +11,7 @@
 #include <stdio.h>
 #include <stdlib.h>
 #include <string.h>
+#include <time.h>
 #include <unistd.h>
 
 #include "station.h"
@@ -69,6 +70,70 @@ static void restart(struct box *box)
     printf("\nThe box starts again from its file.\n");
 }
 
+/* ---- fixes of birds: what a page of the log holds here */
+
+struct fix {
+    uint16_t study;
+    uint32_t bird;
+    int32_t latitude, longitude; /* in millionths of a degree, north and east */
+    uint64_t time;               /* seconds since 1970, UTC */
+    const char *note;            /* at most FIX_NOTE bytes */
+};
+
+enum { FIX_BYTES = 22, FIX_NOTE = STATION_SMALL_PAGE - FIX_BYTES };
+
+static uint8_t *put(uint8_t *at, uint64_t number, int bytes)
+{
+    for (int i = 0; i < bytes; i++)
+        *at++ = (uint8_t)(number >> (8 * i));
+    return at;
+}
+
+static uint64_t get(const uint8_t *at, int bytes)
+{
+    uint64_t number = 0;
+    for (int i = 0; i < bytes; i++)
+        number |= (uint64_t)at[i] << (8 * i);
+    return number;
+}
+
+/* The bytes of a fix, little-endian: study (2), bird (4), latitude (4), longitude (4), time (8), note. */
+static size_t fix_bytes(const struct fix *fix, uint8_t *page)
+{
+    uint8_t *at = put(page, fix->study, 2);
+    at = put(at, fix->bird, 4);
+    at = put(at, (uint32_t)fix->latitude, 4);
+    at = put(at, (uint32_t)fix->longitude, 4);
+    at = put(at, fix->time, 8);
+    size_t note = strlen(fix->note);
+    memcpy(at, fix->note, note);
+    return FIX_BYTES + note;
+}
+
+static void print_degrees(uint32_t bytes, char plus, char minus)
+{
+    int64_t millionths = bytes < UINT32_C(0x80000000) ? (int64_t)bytes : (int64_t)bytes - INT64_C(0x100000000);
+    int64_t size = millionths < 0 ? -millionths : millionths;
+    printf("%" PRId64 ".%06" PRId64 " %c", size / 1000000, size % 1000000, millionths < 0 ? minus : plus);
+}
+
+/* What a page of data says; a page of no bytes is no fix. */
+static void print_fix(const uint8_t *page, uint64_t length)
+{
+    if (length < FIX_BYTES) {
+        printf("a page of %" PRIu64 " bytes, no fix", length);
+        return;
+    }
+    time_t seconds = (time_t)get(page + 14, 8);
+    char when[32] = "";
+    strftime(when, sizeof when, "%Y-%m-%d %H:%M", gmtime(&seconds));
+    printf("study %u, bird %u, ", (unsigned)get(page, 2), (unsigned)get(page + 2, 4));
+    print_degrees((uint32_t)get(page + 6, 4), 'N', 'S');
+    printf(", ");
+    print_degrees((uint32_t)get(page + 10, 4), 'E', 'W');
+    printf(", %s%s%.*s", when, length > FIX_BYTES ? ", " : "", (int)(length - FIX_BYTES), (const char *)page + FIX_BYTES);
+}
+
 /* ---- the account */
 
 static const char *name_of(uint8_t answer)
@@ -102,6 +167,13 @@ static void changed(const struct box *box, const char *what, uint8_t answer)
     tell(what, answer);
 }
 
+static void write_fix(struct box *box, const char *what, uint32_t epoch, uint64_t position, const struct fix *fix)
+{
+    uint8_t page[64];
+    size_t length = fix_bytes(fix, page);
+    changed(box, what, unit_write(box->mem, STATION_MEMORY, epoch, position, UNIT_KIND_DATA, page, length));
+}
+
 static void write_text(struct box *box, const char *what, uint32_t epoch, uint64_t position, const char *text)
 {
     const uint8_t *data = (const uint8_t *)text;
@@ -114,26 +186,69 @@ static void write_junk(struct box *box, const char *what, uint32_t epoch, uint64
     changed(box, what, unit_write(box->mem, STATION_MEMORY, epoch, position, UNIT_KIND_JUNK, nothing, 0));
 }
 
-/* Reads a position, and holds what a fine read gives to the kind and the text that are expected there. */
-static void read_page(const struct box *box, uint32_t epoch, uint64_t position, uint8_t kind_there, const char *text)
+/* Asks for a position. Where the answer is fine, its kind, and its payload as a part of the memory. */
+static uint8_t ask(const struct box *box, uint32_t epoch, uint64_t position, uint8_t *kind, const uint8_t **page, uint64_t *length)
 {
-    uint8_t kind = 99;
-    uint64_t start = 99, length = 99;
     char what[64];
-    uint8_t answer = unit_read(box->mem, STATION_MEMORY, epoch, position, &kind, &start, &length);
+    uint64_t start = 99;
+    *kind = 99;
+    *length = 99;
+    uint8_t answer = unit_read(box->mem, STATION_MEMORY, epoch, position, kind, &start, length);
     snprintf(what, sizeof what, "read %" PRIu64 " in epoch %" PRIu32, position, epoch);
     tell(what, answer);
-    if (answer != UNIT_ANSWER_FINE) {
-        if (kind != 99 || start != 99 || length != 99)
-            stop("a refused read changed its outputs");
-        return;
-    }
-    printf("      %s, %" PRIu64 " bytes at offset %" PRIu64, kind == UNIT_KIND_DATA ? "data" : "junk", length, start);
-    if (length > 0)
-        printf(": %.*s", (int)length, (const char *)box->mem + start);
+    if (answer != UNIT_ANSWER_FINE && (*kind != 99 || start != 99 || *length != 99))
+        stop("a refused read changed its outputs");
+    *page = answer == UNIT_ANSWER_FINE ? box->mem + start : box->mem;
+    return answer;
+}
+
+/* A filler is shown as junk: it has no bytes, and what is not there is never shown as zeros. */
+static void show(uint8_t kind, const uint8_t *page, uint64_t length)
+{
+    printf("      ");
+    if (kind == UNIT_KIND_JUNK)
+        printf("junk: a filler, no fix");
+    else
+        print_fix(page, length);
     printf("\n");
-    if (kind != kind_there || length != strlen(text) || memcmp(box->mem + start, text, length) != 0)
+}
+
+/* Reads a position where nothing can be read: the answer tells why. */
+static void read_none(const struct box *box, uint32_t epoch, uint64_t position)
+{
+    uint8_t kind;
+    const uint8_t *page;
+    uint64_t length;
+    if (ask(box, epoch, position, &kind, &page, &length) == UNIT_ANSWER_FINE)
+        stop("there is a page where none was expected");
+}
+
+/* Reads a position, and holds the page to the kind and the bytes that are expected there. */
+static void read_page(const struct box *box, uint32_t epoch, uint64_t position, uint8_t kind_there, const uint8_t *bytes, size_t count)
+{
+    uint8_t kind;
+    const uint8_t *page;
+    uint64_t length;
+    if (ask(box, epoch, position, &kind, &page, &length) != UNIT_ANSWER_FINE)
+        stop("the page is not there");
+    if (kind != kind_there || length != count || memcmp(page, bytes, count) != 0)
         stop("the page is not the one that was written");
+    if (kind == UNIT_KIND_DATA && length > STATION_SMALL_PAGE)
+        printf("      %.*s\n", (int)length, (const char *)page);
+    else
+        show(kind, page, length);
+}
+
+static void read_fix(const struct box *box, uint32_t epoch, uint64_t position, const struct fix *fix)
+{
+    uint8_t page[64];
+    size_t length = fix_bytes(fix, page);
+    read_page(box, epoch, position, UNIT_KIND_DATA, page, length);
+}
+
+static void read_empty(const struct box *box, uint32_t epoch, uint64_t position, uint8_t kind)
+{
+    read_page(box, epoch, position, kind, box->mem, 0);
 }
 
 static void seal(struct box *box, uint32_t epoch)
@@ -151,9 +266,10 @@ static void seal(struct box *box, uint32_t epoch)
 
 /* ---- the parts of the account */
 
-static const char short_text[] = "signal 12 at danger";
-static const char whole_page[] = "platform 4 clear, doors shut 815"; /* 32 bytes, all that a page holds */
-static const char too_long[] = "platform 4 clear, doors shut 0815";
+/* A vulture, a stork whose note fills the page, and one whose note is one byte too long. */
+static const struct fix vulture = {7, 1204, -18351200, 31472100, 1773470400, ""};
+static const struct fix stork = {12, 88, -17925300, 25856700, 1773474000, "nest 14, 3"};
+static const struct fix too_long = {12, 88, -17925300, 25856700, 1773474000, "nest 14, 33"};
 /* 80 bytes, all that a page of the large shape holds; and one byte more */
 static const char mast_record[] = "mast 2, 06:40: wind 7 m/s from NW, gust 11, rain 0.2 mm, 14.5 C, 3.71 V, tag 815";
 static const char mast_too_long[] = "mast 2, 06:40: wind 7 m/s from NW, gust 11, rain 0.2 mm, 14.5 C, 3.71 V, tag 0815";
@@ -162,31 +278,31 @@ static void pages(struct box *box)
 {
     printf("A new box is unit 3. Its memory, %d bytes, is kept in the file unit-3.memory.\n", STATION_MEMORY);
     changed(box, "make the memory of unit 3", unit_fresh(box->mem, STATION_MEMORY, 3, UNIT_SHAPE_SMALL));
-    read_page(box, 1, 0, 0, "");
-    write_text(box, "write 0, 19 bytes", 1, 0, short_text);
-    write_text(box, "write 1, 32 bytes", 1, 1, whole_page);
+    read_none(box, 1, 0);
+    write_fix(box, "write 0, a vulture's fix, 22 bytes", 1, 0, &vulture);
+    write_fix(box, "write 1, a stork's with a note, 32 bytes", 1, 1, &stork);
     write_text(box, "write 2, data of no bytes", 1, 2, "");
-    write_junk(box, "write 3, junk", 1, 3);
+    write_junk(box, "write 3, a filler: junk", 1, 3);
     restart(box);
-    read_page(box, 1, 0, UNIT_KIND_DATA, short_text);
-    read_page(box, 1, 1, UNIT_KIND_DATA, whole_page);
+    read_fix(box, 1, 0, &vulture);
+    read_fix(box, 1, 1, &stork);
     printf("  Data of no bytes, junk and an unwritten position are three different things:\n");
-    read_page(box, 1, 2, UNIT_KIND_DATA, "");
-    read_page(box, 1, 3, UNIT_KIND_JUNK, "");
-    read_page(box, 1, 4, 0, "");
+    read_empty(box, 1, 2, UNIT_KIND_DATA);
+    read_empty(box, 1, 3, UNIT_KIND_JUNK);
+    read_none(box, 1, 4);
 }
 
 static void trim_and_prune(struct box *box)
 {
-    printf("\nPages that nobody needs any more are given up.\n");
+    printf("\nFixes that nobody needs any more are given up.\n");
     changed(box, "trim 1", unit_trim(box->mem, STATION_MEMORY, 1, 1));
-    read_page(box, 1, 1, 0, "");
+    read_none(box, 1, 1);
     changed(box, "trim 6, where nothing was written", unit_trim(box->mem, STATION_MEMORY, 1, 6));
-    write_text(box, "write 6", 1, 6, short_text);
+    write_fix(box, "write 6", 1, 6, &vulture);
     changed(box, "trim 6 once more", unit_trim(box->mem, STATION_MEMORY, 1, 6));
     changed(box, "prune to 2", unit_prune(box->mem, STATION_MEMORY, 1, 2));
-    read_page(box, 1, 0, 0, "");
-    read_page(box, 1, 2, UNIT_KIND_DATA, "");
+    read_none(box, 1, 0);
+    read_empty(box, 1, 2, UNIT_KIND_DATA);
     changed(box, "prune to 1, below the floor", unit_prune(box->mem, STATION_MEMORY, 1, 1));
 }
 
@@ -194,13 +310,13 @@ static void sealing(struct box *box)
 {
     printf("\nThe layout changes, and epoch 1 is over.\n");
     seal(box, 1);
-    write_text(box, "write 7 in epoch 1", 1, 7, short_text);
-    write_text(box, "write 7 in epoch 2", 2, 7, short_text);
+    write_fix(box, "write 7 in epoch 1", 1, 7, &vulture);
+    write_fix(box, "write 7 in epoch 2", 2, 7, &vulture);
     seal(box, 1);
     seal(box, 0);
     restart(box);
-    read_page(box, 1, 7, 0, "");
-    read_page(box, 2, 7, UNIT_KIND_DATA, short_text);
+    read_none(box, 1, 7);
+    read_fix(box, 2, 7, &vulture);
 }
 
 /* Memories that are not good: one byte short, and one with a byte that no unit wrote. */
@@ -222,16 +338,16 @@ static void refusals(struct box *box)
     static const uint8_t bytes[4] = {1, 2, 3, 4};
     printf("\nEach refusal by its name; none of them changes a byte.\n");
     bad_memories(box);
-    write_text(box, "write 2^40", 2, STATION_POSITIONS, short_text);
+    write_fix(box, "write 2^40", 2, STATION_POSITIONS, &vulture);
     tell("prune to 2^40 + 1", unit_prune(box->mem, STATION_MEMORY, 2, STATION_POSITIONS + 1));
-    write_text(box, "write 8, 33 bytes", 2, 8, too_long);
+    write_fix(box, "write 8, a note too long, 33 bytes", 2, 8, &too_long);
     tell("write 8, junk with 4 bytes", unit_write(box->mem, STATION_MEMORY, 2, 8, UNIT_KIND_JUNK, bytes, 4));
     tell("write 8, of kind 3", unit_write(box->mem, STATION_MEMORY, 2, 8, 3, bytes, 0));
-    write_text(box, "write 8 in epoch 1", 1, 8, short_text);
-    write_text(box, "write 6, which is trimmed", 2, 6, short_text);
-    write_text(box, "write 1, below the floor", 2, 1, short_text);
+    write_fix(box, "write 8 in epoch 1", 1, 8, &vulture);
+    write_fix(box, "write 6, which is trimmed", 2, 6, &vulture);
+    write_fix(box, "write 1, below the floor", 2, 1, &vulture);
     write_junk(box, "write 2, which is written", 2, 2);
-    read_page(box, 2, 8, 0, "");
+    read_none(box, 2, 8);
     tell("make the memory of unit 3 in shape 2", unit_fresh(box->mem, STATION_MEMORY, 3, 2));
     tell("make the memory of unit 9", unit_fresh(box->mem, STATION_MEMORY, 9, UNIT_SHAPE_SMALL));
     if (memcmp(box->mem, before.mem, STATION_MEMORY) != 0)
@@ -241,7 +357,7 @@ static void refusals(struct box *box)
 static void filling(struct box *box)
 {
     uint64_t p = 8;
-    printf("\nThe box fills up, with junk from position 8 on.\n");
+    printf("\nThe box fills up, with fillers from position 8 on.\n");
     while (unit_write(box->mem, STATION_MEMORY, 2, p, UNIT_KIND_JUNK, (const uint8_t *)"", 0) == UNIT_ANSWER_FINE)
         p++;
     keep(box);
@@ -251,7 +367,7 @@ static void filling(struct box *box)
     changed(box, "prune to 4", unit_prune(box->mem, STATION_MEMORY, 2, 4));
     write_junk(box, "write the next", 2, p);
     restart(box);
-    read_page(box, 2, p, UNIT_KIND_JUNK, "");
+    read_empty(box, 2, p, UNIT_KIND_JUNK);
     seal(box, 2);
 }
 
@@ -262,7 +378,7 @@ static void mast(struct box *box)
     write_text(box, "write 0, a mast record of 80 bytes", 1, 0, mast_record);
     write_text(box, "write 1, 81 bytes", 1, 1, mast_too_long);
     restart(box);
-    read_page(box, 1, 0, UNIT_KIND_DATA, mast_record);
+    read_page(box, 1, 0, UNIT_KIND_DATA, (const uint8_t *)mast_record, strlen(mast_record));
 }
 
 /* Where a box keeps its memory. */

@@ -1,13 +1,21 @@
 /*
  * desk.h: layouts and plays of the shared log, for tests on a desk.
  *
- * Link with libdesk.a, which `rt staticlib desk` writes to target/staticlib. Nothing is kept between calls. Every call answers
+ * To link, in the repository's folder:
+ *
+ *   x86-64:  rt staticlib desk
+ *            gcc -Iinclude -o test test.c -Ltarget/staticlib -ldesk
+ *   Arm:     tools/native-archive desk
+ *            gcc -Iinclude -o test test.c -Ltarget/native -ldesk
+ *   either:  tools/c-program --out test test.c desk
+ *
+ * (rt writes x86-64 code on every machine, which an Arm linker passes over.) Nothing is kept between calls. Every call answers
  * one number of enum desk_answer. A call that answers anything but DESK_ANSWER_FINE has changed nothing: no byte of out, and
  * *set, *lines and *written keep what they held.
  *
  * A layout is its bytes: epoch (4, little-endian), shape (1: 0 small units, 1 large ones), then units, sets and ranges, each
- * section after its one-byte count. No pointer may be NULL, also where its length is 0, and what is written lies apart from all
- * else.
+ * section after its one-byte count (docs/RULES.md, 5.1, has them drawn). No pointer may be NULL, also where its length is 0,
+ * and what is written lies apart from all else.
  */
 #ifndef DESK_H
 #define DESK_H

@@ -1,9 +1,20 @@
 /*
  * station.h: a storage unit of the shared log, for a station box's own C program.
  *
- * Link with libstation.a, which `rt staticlib station` writes to target/staticlib. The unit keeps nothing of its own: all
- * that it knows lies in the STATION_MEMORY bytes that each call is lent. Keep those bytes in a file or in flash, and make
- * each change durable as a whole or not at all (write a second file, then rename it: demo/box.c shows how).
+ * To link, in the repository's folder:
+ *
+ *   x86-64:  rt staticlib station
+ *            gcc -Iinclude -o box box.c -Ltarget/staticlib -lstation
+ *   Arm:     tools/native-archive station
+ *            gcc -Iinclude -o box box.c -Ltarget/native -lstation
+ *   either:  tools/c-program --out box box.c station
+ *
+ * rt writes x86-64 code on every machine; an Arm linker passes it over ("skipping incompatible"), so tools/native-archive
+ * compiles the same proved module for Arm.
+ *
+ * The unit keeps nothing of its own: all that it knows lies in the STATION_MEMORY bytes that each call is lent. Keep those
+ * bytes in a file or in flash, and make each change durable as a whole or not at all (write a second file, then rename it:
+ * demo/box.c shows how).
  *
  * Every call answers one number of enum unit_answer. Of several that apply it is the lowest. A call that answers anything
  * but UNIT_ANSWER_FINE has changed nothing: no byte of mem, and *kind, *start, *length and *edge keep what they held.
@@ -47,7 +58,7 @@ enum unit_shape {
 #define STATION_LARGE_SLOTS 64
 #define STATION_LARGE_PAGE 80
 
-/* What a call answers, by the name that the log's papers give it. */
+/* What a call answers, by the name that docs/RULES.md, section 10, gives it. */
 enum unit_answer {
     UNIT_ANSWER_FINE = 0,      /* done */
     UNIT_ANSWER_MEMORY = 1,    /* the memory is not good: damaged, never made by unit_fresh, or of a wrong length */

@@ -1,27 +1,28 @@
-//! Holds all sides to the same answers, outputs and bytes, on good memories and on damaged ones.
+//! Holds all sides to the answers, outputs and bytes of the independent reading, on good memories and on damaged ones.
 
-use crate::call::Call;
+use crate::call::{Call, Seen};
 use crate::draw;
 use crate::random::Random;
 use crate::side::{sides, Side, SIDES};
 use crate::unit::MEMORY;
+use reading::unit_call::{self, Outputs};
 
 /// What a unit answers: 0 to 8.
 const ANSWERS: usize = 9;
 
-/// The answer of one call on one memory, which is that of all sides, as are the outputs and the bytes left behind.
+/// The answer of one call on one memory, which is the reading's and that of all sides, as are the outputs and the bytes left behind.
 pub fn answer(sides: &[Side; SIDES], memory: &[u8], call: &Call) -> u8 {
-    let after = sides.each_ref().map(|side| {
+    let read = unit_call::after(memory, &call.read(), Outputs::UNTOUCHED);
+    let wanted = Seen { answer: read.answer, outputs: read.outputs };
+    for side in sides {
         let mut bytes = memory.to_vec();
-        (call.on(side)(&mut bytes), bytes)
-    });
-    for (side, other) in sides.iter().zip(&after) {
-        if *other != after[0] {
-            let place = after[0].1.iter().zip(&other.1).position(|(ours, theirs)| ours != theirs);
-            panic!("{call:?}: ours {:?}, {} {:?}; bytes differ at {place:?}", after[0].0, side.name, other.0);
+        let seen = call.on(side)(&mut bytes);
+        if seen != wanted || bytes != read.memory {
+            let place = read.memory.iter().zip(&bytes).position(|(read, theirs)| read != theirs);
+            panic!("{call:?}: the reading {wanted:?}, {} {seen:?}; bytes differ at {place:?}", side.name);
         }
     }
-    after[0].0.answer
+    read.answer
 }
 
 /// How often each number was answered to random calls on random memories, every second one damaged.

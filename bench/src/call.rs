@@ -1,6 +1,7 @@
 //! One call, to be made on any side.
 
 use crate::side::Side;
+use reading::unit_call::{self, Outputs};
 use std::hint::black_box;
 
 #[derive(Clone, Debug)]
@@ -33,19 +34,29 @@ pub enum Call {
 #[derive(Clone, Copy, PartialEq, Eq, Debug)]
 pub struct Seen {
     pub answer: u8,
-    pub kind: u8,
-    pub start: u64,
-    pub length: u64,
-    pub edge: u64,
+    pub outputs: Outputs,
 }
 
-/// Before a call: outputs that no call gives.
-pub const UNSEEN: Seen = Seen { answer: 255, kind: 0xEE, start: 0xDEAD_0001, length: 0xDEAD_0002, edge: u64::MAX };
+/// Before a call: what no call gives.
+pub const UNSEEN: Seen = Seen { answer: 255, outputs: Outputs::UNTOUCHED };
 
 /// A call on one side, to be made on a memory as often as wanted.
 pub type Made<'a> = Box<dyn FnMut(&mut [u8]) -> Seen + 'a>;
 
 impl Call {
+    /// The same call as the reading has it; of several reads the first.
+    pub fn read(&self) -> unit_call::Call {
+        match *self {
+            Call::Write { epoch, position, kind, ref data } => {
+                unit_call::Call::Write { epoch, position, kind, data: data.clone() }
+            }
+            Call::Read { epoch, ref positions } => unit_call::Call::Read { epoch, position: positions[0] },
+            Call::Trim { epoch, position } => unit_call::Call::Trim { epoch, position },
+            Call::Prune { epoch, position } => unit_call::Call::Prune { epoch, position },
+            Call::Seal { epoch } => unit_call::Call::Seal { epoch },
+        }
+    }
+
     /// The call on one side, for whatever memory; the compiler knows none of its numbers.
     pub fn on<'a>(&'a self, side: &'a Side) -> Made<'a> {
         match *self {
@@ -56,11 +67,11 @@ impl Call {
             Call::Read { epoch, ref positions } => {
                 let mut next = positions.iter().cycle();
                 Box::new(move |mem| {
-                    let mut seen = UNSEEN;
-                    let Seen { kind, start, length, .. } = &mut seen;
+                    let mut outputs = Outputs::UNTOUCHED;
+                    let Outputs { kind, start, length, .. } = &mut outputs;
                     let position = *next.next().expect("a position to read");
                     let answer = (side.read)(mem, epoch, black_box(position), kind, start, length);
-                    Seen { answer, ..seen }
+                    Seen { answer, outputs }
                 })
             }
             Call::Trim { epoch, position } => Box::new(move |mem| {
@@ -72,9 +83,9 @@ impl Call {
                 Seen { answer, ..UNSEEN }
             }),
             Call::Seal { epoch } => Box::new(move |mem| {
-                let mut seen = UNSEEN;
-                let answer = (side.seal)(mem, black_box(epoch), &mut seen.edge);
-                Seen { answer, ..seen }
+                let mut outputs = Outputs::UNTOUCHED;
+                let answer = (side.seal)(mem, black_box(epoch), &mut outputs.edge);
+                Seen { answer, outputs }
             }),
         }
     }

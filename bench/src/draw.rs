@@ -3,15 +3,17 @@
 use crate::call::Call;
 use crate::random::Random;
 use crate::unit::{page, shape, slots, u32_at, u64_at, HEADER, MEMORY, PAYLOAD, POSITIONS};
+use reading::memory::encode;
+use reading::shape::Shape;
+use reading::unit::{Cell, Unit};
+use std::collections::BTreeMap;
 
 const EPOCHS: [u32; 5] = [0, 1, 7, u32::MAX - 1, u32::MAX];
 
-/// A slot of good memory.
-fn put_slot<const SLOT: usize>(slot: &mut [u8], position: u64, kind: u8, data: &[u8]) {
-    slot[..8].copy_from_slice(&position.to_le_bytes());
-    slot[8] = kind;
-    slot[9] = data.len() as u8;
-    slot[PAYLOAD..PAYLOAD + data.len()].copy_from_slice(data);
+/// The memory of a unit with such slots.
+fn printed<const SLOT: usize>(number: u8, sealed: u32, floor: u64, cells: BTreeMap<u64, Cell>) -> Vec<u8> {
+    let shape = Shape::of(shape(SLOT)).expect("slots of one of the shapes");
+    encode(&Unit { number, shape, sealed, floor, cells })
 }
 
 /// The bytes of a data page: of any length, with zeros and bytes of 255 more often than chance has them.
@@ -33,41 +35,25 @@ pub fn memory<const SLOT: usize>(random: &mut Random) -> Vec<u8> {
     let counts = [0, 1, all / 2, all - 1, all, all, random.below(all + 1)];
     let most = random.one_of(&counts);
     let gaps = 1 + random.below(3);
-    let mut memory = vec![0; MEMORY];
+    let mut cells = BTreeMap::new();
     let mut position = floor + random.below(gaps);
-    let mut count = 0;
-    while count < most && position < POSITIONS {
-        let at = HEADER + count as usize * SLOT;
-        let kind = random.one_of(&[1, 1, 1, 1, 2, 3]);
-        let data = if kind == 1 { data::<SLOT>(random) } else { Vec::new() };
-        put_slot::<SLOT>(&mut memory[at..at + SLOT], position, kind, &data);
+    while (cells.len() as u64) < most && position < POSITIONS {
+        let cell = match random.one_of(&[1, 1, 1, 1, 2, 3]) {
+            1 => Cell::data(&data::<SLOT>(random)),
+            2 => Cell::JUNK,
+            _ => Cell::Trimmed,
+        };
+        cells.insert(position, cell);
         position += 1 + random.below(gaps);
-        count += 1;
     }
-    memory[0] = 1 + random.below(8) as u8;
-    memory[1] = shape(SLOT);
-    memory[4..8].copy_from_slice(&random.one_of(&EPOCHS).to_le_bytes());
-    memory[8..16].copy_from_slice(&floor.to_le_bytes());
-    memory[16..18].copy_from_slice(&(count as u16).to_le_bytes());
-    memory
+    printed::<SLOT>(1 + random.below(8) as u8, random.one_of(&EPOCHS), floor, cells)
 }
 
 /// A good memory with half of its slots used, by data of every length in turn.
 pub fn half_full<const SLOT: usize>() -> Vec<u8> {
-    let mut memory = vec![0; MEMORY];
-    for index in 0..slots(SLOT) / 2 {
-        let at = HEADER + index * SLOT;
-        put_slot::<SLOT>(
-            &mut memory[at..at + SLOT],
-            3 * index as u64,
-            1,
-            &vec![index as u8 | 1; index % (page(SLOT) + 1)],
-        );
-    }
-    memory[0] = 1;
-    memory[1] = shape(SLOT);
-    memory[16..18].copy_from_slice(&(slots(SLOT) as u16 / 2).to_le_bytes());
-    memory
+    let bytes = |index: usize| vec![index as u8 | 1; index % (page(SLOT) + 1)];
+    let cells = (0..slots(SLOT) / 2).map(|index| (3 * index as u64, Cell::data(&bytes(index))));
+    printed::<SLOT>(1, 0, 0, cells.collect())
 }
 
 /// Where the last used slot of a memory begins, or the first slot where none is used.

@@ -88,7 +88,7 @@ fn lines<const SLOT: usize>(pages: Pages) -> Vec<Line> {
 
 /// One pass over all bytes of a memory: what no side can do without.
 fn pass<'a>() -> Made<'a> {
-    Box::new(|mem| Seen { kind: tuned::sum(mem), ..UNSEEN })
+    Box::new(|mem| Seen { answer: tuned::sum(mem), ..UNSEEN })
 }
 
 /// The times of all sides, ours first, and of the pass, last.

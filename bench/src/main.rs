@@ -1,6 +1,6 @@
 //! Times the proved unit of either shape and three Rust versions on the same calls, and prints a table of nanoseconds and of ratios ours / Rust.
 //!
-//! Before that all sides are held to the same answers and bytes. With --short it makes only a few rounds, so that the times mean little.
+//! Before that all sides are held to the answers and bytes of the independent reading. With --short it makes only a few rounds, so that the times mean little.
 
 #[path = "../../tests/src/library.rs"]
 mod library;

@@ -24,6 +24,12 @@ fn line(number: usize, answer: no::No, ended: Option<&Ended>) -> String {
     format!("{number} {answer}{end}\n")
 }
 
+/// The numbers in a line: the step's answer, and the outcome's where an operation ended.
+pub fn numbers(line: &str) -> impl Iterator<Item = no::No> + '_ {
+    let word = |i: usize| line.split(' ').nth(i).and_then(|word| word.trim().parse().ok());
+    word(1).into_iter().chain(word(4))
+}
+
 /// The lines of steps, numbered from 1, in a yard as `take` steps it.
 pub fn lines(steps: &[Step], mut take: impl FnMut(&Step) -> (no::No, Option<Ended>)) -> Vec<String> {
     let numbered = steps.iter().enumerate();

@@ -50,7 +50,7 @@ pub enum Ask {
         epoch: u32,
         position: u64,
     },
-    /// No request of the paper: only a shortcut sends it.
+    /// No request of the rules: only a shortcut sends it.
     EdgeOnly {
         unit: u8,
     },

@@ -1,15 +1,17 @@
-//! A second reading of the paper: units, holder, sequencer, clients and the yard, in plain Rust.
-//! It shares no code and no types with the proved machines; docs/RUNS.md says how runs of both are compared.
+//! A second reading of the rules: units, holder, sequencer, clients and the yard, in plain Rust.
+//! It shares no code and no types with the proved machines; docs/RUNS.md says how both are compared.
 
 pub mod no;
 
 pub mod memory;
 pub mod shape;
 pub mod unit;
+pub mod unit_call;
 
 pub mod bytes;
 pub mod layout;
 pub mod layout_bytes;
+pub mod layout_call;
 pub mod plan;
 pub mod successor;
 
@@ -29,6 +31,7 @@ pub mod invariant;
 pub mod last_sentence;
 
 pub mod book;
+pub mod picture;
 pub mod play;
 pub mod tell;
 pub mod words;
@@ -42,5 +45,7 @@ pub mod census;
 pub mod compare;
 pub mod damage;
 pub mod draw_play;
+pub mod examples;
 pub mod odd;
 pub mod run;
+pub mod stored;

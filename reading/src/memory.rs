@@ -2,19 +2,24 @@
 
 use crate::layout::UNITS;
 use crate::no::{self, unless, No, LIMIT};
-use crate::shape::Shape;
-use crate::unit::{Cell, Page, Unit};
+use crate::shape::{Shape, PAYLOAD};
+use crate::unit::{Cell, Unit};
 use std::collections::BTreeMap;
 
 pub const HEADER: usize = 24;
 pub const SIZE: usize = 6168;
 
-/// A fresh unit's memory in a buffer of this length, of the shape that the byte names.
-pub fn fresh(length: usize, number: u8, shape: u8) -> Result<Vec<u8>, No> {
+/// The fresh unit that a memory of this length may become, of the shape that the byte names.
+pub fn fresh(length: usize, number: u32, shape: u8) -> Result<Unit, No> {
     unless(length != SIZE, no::MEMORY)?;
     let shape = Shape::of(shape).ok_or(no::LAYOUT)?;
-    unless(!(1..=UNITS).contains(&number), no::NOBODY)?;
-    Ok(encode(&Unit::fresh(number, shape)))
+    unless(!(1..=UNITS.into()).contains(&number), no::NOBODY)?;
+    Ok(Unit::fresh(number as u8, shape))
+}
+
+/// Where the payload of a used position stands in a unit's memory.
+pub fn payload_at(unit: &Unit, position: u64) -> usize {
+    HEADER + unit.cells.range(..position).count() * unit.shape.slot() + PAYLOAD
 }
 
 /// The bytes of a unit's memory.
@@ -50,13 +55,14 @@ fn all_zero(bytes: &[u8]) -> bool {
 /// One used slot: none where it is not good by itself.
 fn slot(bytes: &[u8], shape: Shape) -> Option<(u64, Cell)> {
     let (position, kind, length) = (number(&bytes[..8]), bytes[8], usize::from(bytes[9]));
-    let payload = &bytes[16..];
-    if position >= LIMIT || length > shape.payload() || !all_zero(&bytes[10..16]) || !all_zero(&payload[length..]) {
+    let payload = &bytes[PAYLOAD..];
+    if position >= LIMIT || length > shape.payload() || !all_zero(&bytes[10..PAYLOAD]) || !all_zero(&payload[length..])
+    {
         return None;
     }
     match kind {
-        1 => Some((position, Cell::Holds(Page::Data(payload[..length].to_vec())))),
-        2 if length == 0 => Some((position, Cell::Holds(Page::Junk))),
+        1 => Some((position, Cell::data(&payload[..length]))),
+        2 if length == 0 => Some((position, Cell::JUNK)),
         3 if length == 0 => Some((position, Cell::Trimmed)),
         _ => None,
     }
@@ -70,7 +76,12 @@ pub fn decode(memory: &[u8]) -> Option<Unit> {
     let (header, slots) = memory.split_at(HEADER);
     let (unit, shape) = (header[0], Shape::of(header[1])?);
     let (floor, count) = (number(&header[8..16]), number(&header[16..18]) as usize);
-    if !(1..=UNITS).contains(&unit) || !all_zero(&header[2..4]) || floor > LIMIT || count > shape.slots() || !all_zero(&header[18..]) {
+    if !(1..=UNITS).contains(&unit)
+        || !all_zero(&header[2..4])
+        || floor > LIMIT
+        || count > shape.slots()
+        || !all_zero(&header[18..])
+    {
         return None;
     }
     let (used, unused) = slots.split_at(count * shape.slot());

@@ -1,4 +1,4 @@
-//! A play: the layout of a fresh yard and the steps taken from there, as the bytes of a file (document 02, C-01).
+//! A play: the layout of a fresh yard and the steps taken from there, as the bytes of a file (docs/PLAY.md).
 
 use crate::bytes::Reader;
 use crate::client::Job;

@@ -1,5 +1,8 @@
 //! The two kinds of unit, by how long a page may be and how many slots a memory has. Both memories are of one size.
 
+/// Where a slot's payload begins in it: behind position, kind, length and six zeros.
+pub const PAYLOAD: usize = 16;
+
 #[derive(Clone, Copy, Debug, PartialEq, Eq, PartialOrd, Ord)]
 pub enum Shape {
     Small,
@@ -36,8 +39,8 @@ impl Shape {
         }
     }
 
-    /// Bytes of a slot: its position, kind, length and six zeros, then the payload.
+    /// Bytes of a slot.
     pub fn slot(self) -> usize {
-        16 + self.payload()
+        PAYLOAD + self.payload()
     }
 }

@@ -42,6 +42,14 @@ pub enum Cell {
     Trimmed,
 }
 
+impl Cell {
+    pub const JUNK: Cell = Cell::Holds(Page::Junk);
+
+    pub fn data(bytes: &[u8]) -> Cell {
+        Cell::Holds(Page::Data(bytes.to_vec()))
+    }
+}
+
 #[derive(Clone, Debug, PartialEq, Eq)]
 pub struct Unit {
     pub number: u8,

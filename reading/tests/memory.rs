@@ -23,8 +23,11 @@ fn round_trip() {
     assert_eq!(memory[..24], [3, 0, 0, 0, 2, 0, 0, 0, 4, 0, 0, 0, 0, 0, 0, 0, 3, 0, 0, 0, 0, 0, 0, 0]);
     assert_eq!(memory[24..43], [5, 0, 0, 0, 0, 0, 0, 0, 1, 3, 0, 0, 0, 0, 0, 0, b'f', b'i', b'x']);
     assert_eq!(decode(&memory), Some(unit));
-    assert_eq!(fresh(SIZE, 3, 0), Ok(encode(&Unit::fresh(3, Shape::Small))));
-    assert_eq!((fresh(SIZE - 1, 9, 2), fresh(SIZE, 9, 2), fresh(SIZE, 9, 1)), (Err(no::MEMORY), Err(no::LAYOUT), Err(no::NOBODY)));
+    assert_eq!(fresh(SIZE, 3, 0), Ok(Unit::fresh(3, Shape::Small)));
+    assert_eq!(
+        (fresh(SIZE - 1, 9, 2), fresh(SIZE, 9, 2), fresh(SIZE, 9, 1)),
+        (Err(no::MEMORY), Err(no::LAYOUT), Err(no::NOBODY))
+    );
 }
 
 #[test]
@@ -35,15 +38,34 @@ fn large() {
     let memory = encode(&unit);
     assert_eq!((memory.len(), memory[1], memory[24 + 9], memory[24 + 96]), (SIZE, 1, 80, 6));
     assert_eq!(decode(&memory), Some(unit));
-    assert_eq!(decode(&encode(&Unit { shape: Shape::Small, ..Unit::fresh(3, Shape::Large) })), Some(Unit::fresh(3, Shape::Small)));
+    assert_eq!(
+        decode(&encode(&Unit { shape: Shape::Small, ..Unit::fresh(3, Shape::Large) })),
+        Some(Unit::fresh(3, Shape::Small))
+    );
 }
 
 #[test]
 fn each_fault_is_seen() {
     let good = encode(&sample());
     // unit, its shape and its last two bytes, floor, count, spare bytes of the header, then of the first slot: position, kind, length, spare bytes, payload past the length
-    let faults: [(usize, u8); 16] =
-        [(0, 9), (0, 0), (1, 1), (1, 2), (2, 1), (3, 1), (8, 6), (13, 2), (16, 2), (16, 129), (18, 1), (24, 7), (32, 0), (32, 2), (33, 33), (34, 1)];
+    let faults: [(usize, u8); 16] = [
+        (0, 9),
+        (0, 0),
+        (1, 1),
+        (1, 2),
+        (2, 1),
+        (3, 1),
+        (8, 6),
+        (13, 2),
+        (16, 2),
+        (16, 129),
+        (18, 1),
+        (24, 7),
+        (32, 0),
+        (32, 2),
+        (33, 33),
+        (34, 1),
+    ];
     for (at, byte) in faults {
         let mut bad = good.clone();
         bad[at] = byte;

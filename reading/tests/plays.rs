@@ -1,31 +1,14 @@
 //! The plays of plays/: what their words tell, their bytes, and their lines.
 
-use reading::book::text;
+use reading::book::{numbers, text};
 use reading::odd::{self, Odd};
 use reading::play::Play;
+use reading::stored::{self, play as read, plays as names};
 use reading::{tell, words};
 use std::collections::BTreeSet;
-use std::fs;
-use std::path::{Path, PathBuf};
-
-fn folder() -> PathBuf {
-    Path::new(env!("CARGO_MANIFEST_DIR")).join("../plays")
-}
-
-fn read(name: &str, ending: &str) -> Vec<u8> {
-    let path = folder().join(format!("{name}.{ending}"));
-    fs::read(&path).unwrap_or_else(|error| panic!("{}: {error}", path.display()))
-}
 
 fn words_of(name: &str) -> String {
-    String::from_utf8(read(name, "txt")).expect("plain letters")
-}
-
-/// Names with this ending.
-fn names(ending: &str) -> BTreeSet<String> {
-    let paths = fs::read_dir(folder()).expect("the plays").map(|entry| entry.expect("a file").path());
-    let ends = |path: &PathBuf| path.extension().is_some_and(|found| found == ending);
-    paths.filter(ends).map(|path| path.file_stem().unwrap().to_string_lossy().into_owned()).collect()
+    stored::text(&format!("plays/{name}.txt"))
 }
 
 #[test]
@@ -90,12 +73,6 @@ fn the_lines_are_what_the_comments_say() {
     }
 }
 
-/// Answers and outcomes' numbers.
-fn numbers(line: &str) -> impl Iterator<Item = u8> + '_ {
-    let word = |i: usize| line.split(' ').nth(i).and_then(|word| word.trim().parse().ok());
-    word(1).into_iter().chain(word(4))
-}
-
 /// 1, 12, 15 and 19 no run from a fresh yard meets, and 21 is no number.
 #[test]
 fn the_plays_meet_every_number_that_a_run_can_meet() {
@@ -121,7 +98,7 @@ fn each_refusal_is_met_by_its_own_play() {
 /// The programs are run on two of the plays by every check.
 #[test]
 fn the_stored_inputs_are_plays() {
-    let stored = |name: &str| fs::read(folder().join("../crates").join(name)).expect("a stored file");
+    let stored = |name: &str| stored::bytes(&format!("crates/{name}"));
     assert_eq!(stored("book/stdin"), read("failure-3-dead-station", "play"));
     assert_eq!(stored("book/stdout"), read("failure-3-dead-station", "lines"));
     let input = stored("odd/stdin");

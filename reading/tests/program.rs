@@ -1,38 +1,23 @@
 //! The programs `book` and `odd` and the reading show the same lines. `tools/native-program NAME` makes a program for the machine at hand.
 
-use reading::book::{self, lines};
+use reading::book::{self, lines, numbers};
 use reading::compare::{compare, said, Difference};
 use reading::damage::{changed, cut, lengthened, nearly_play, play_of, RandomBytes};
 use reading::draw_play::{draw_old_play, draw_play};
 use reading::lehmer::Lehmer;
 use reading::odd::{self, Odd};
 use reading::play::{self, Play};
-use reading::run::{age, seeds};
+use reading::run::age;
 use reading::shortcut::Shortcut;
+use reading::stored;
 use reading::yard::Yard;
 use std::collections::BTreeSet;
-use std::fs;
-use std::path::{Path, PathBuf};
-
-const PACKAGE: &str = env!("CARGO_MANIFEST_DIR");
-
-fn asked() -> Vec<(u32, u32)> {
-    let text = fs::read_to_string(Path::new(PACKAGE).join("seeds.txt")).expect("the seeds");
-    seeds(&text).expect("seeds and numbers of steps")
-}
+use std::path::PathBuf;
 
 fn program(name: &str) -> PathBuf {
-    let program = Path::new(PACKAGE).join("../target/native").join(name);
+    let program = stored::path("target/native").join(name);
     assert!(program.is_file(), "there is no {}: tools/native-program {name} makes it", program.display());
     program
-}
-
-/// The plays of plays/, each with its name.
-fn plays() -> Vec<(String, Vec<u8>)> {
-    let paths =
-        fs::read_dir(Path::new(PACKAGE).join("../plays")).expect("the plays").map(|entry| entry.unwrap().path());
-    let is_play = |path: &PathBuf| path.extension().is_some_and(|ending| ending == "play");
-    paths.filter(is_play).map(|path| (path.display().to_string(), fs::read(path).expect("a play"))).collect()
 }
 
 /// Panics where the program shows other lines of the input than these.
@@ -55,7 +40,7 @@ fn agree_on_odd(what: &str, odd: Odd, file: &[u8]) -> Vec<String> {
 #[test]
 fn runs_from_fresh_yards() {
     let mut compared = 0;
-    for (seed, steps) in asked() {
+    for (seed, steps) in stored::runs() {
         let play = draw_play(seed, steps);
         agree_on_book(&format!("seed {seed}"), &play.write().expect("it fits"));
         compared += play.steps.len();
@@ -64,20 +49,18 @@ fn runs_from_fresh_yards() {
     assert!(compared >= 248_000, "only {compared} steps");
 }
 
-/// Answers and outcomes' numbers of lines.
-fn numbers(lines: &[String]) -> BTreeSet<u8> {
-    let word = |line: &str, i: usize| line.split(' ').nth(i).and_then(|word| word.trim().parse().ok());
-    lines.iter().flat_map(|line| word(line, 1).into_iter().chain(word(line, 4))).collect()
+fn numbers_of(lines: &[String]) -> BTreeSet<u8> {
+    lines.iter().flat_map(|line| numbers(line)).collect()
 }
 
 #[test]
 fn runs_of_old_yards() {
     let mut compared = 0;
     let mut met = BTreeSet::new();
-    for (seed, steps) in asked() {
+    for (seed, steps) in stored::runs() {
         let Some(odd) = age(seed) else { continue };
         let play = draw_old_play(seed, steps);
-        met.append(&mut numbers(&agree_on_odd(&format!("seed {seed}"), odd, &play.write().expect("it fits"))));
+        met.extend(numbers_of(&agree_on_odd(&format!("seed {seed}"), odd, &play.write().expect("it fits"))));
         compared += play.steps.len();
     }
     println!("steps compared: {compared} of old yards");
@@ -88,9 +71,10 @@ fn runs_of_old_yards() {
 #[test]
 fn the_plays_in_their_fresh_yards_and_in_odd_ones() {
     let mut met = BTreeSet::new();
-    for (name, file) in plays() {
+    for name in stored::plays("play") {
+        let file = stored::play(&name, "play");
         agree_on_book(&name, &file);
-        met.extend(Odd::ALL.into_iter().flat_map(|odd| numbers(&agree_on_odd(&name, odd, &file))));
+        met.extend(Odd::ALL.into_iter().flat_map(|odd| numbers_of(&agree_on_odd(&name, odd, &file))));
     }
     assert!(met.contains(&1) && met.contains(&12), "only {met:?}");
 }
@@ -150,8 +134,10 @@ fn ruined(play: &Play, shortcut: Shortcut) -> Vec<String> {
 #[test]
 fn each_shortcut_shows_in_the_lines() {
     for shortcut in Shortcut::ALL.into_iter().filter(|shortcut| *shortcut != Shortcut::BelieveOldTail) {
-        let plays =
-            asked().into_iter().map(|(seed, steps)| draw_play(seed, steps)).filter(|play| !play.steps.is_empty());
+        let plays = stored::runs()
+            .into_iter()
+            .map(|(seed, steps)| draw_play(seed, steps))
+            .filter(|play| !play.steps.is_empty());
         let shown = plays.map(|play| (book::text(&play.write().expect("it fits")), ruined(&play, shortcut)));
         let differ = shown.filter(|(right, wrong)| right != wrong).count();
         println!("{shortcut:?} shows in {differ} of the plays");

@@ -1,16 +1,10 @@
 //! The worked example of docs/PLAY.md is plays/worked: its words, its bytes and its lines.
 
-use reading::words;
-use std::fs;
-use std::path::Path;
-
-fn file(name: &str) -> Vec<u8> {
-    fs::read(Path::new(env!("CARGO_MANIFEST_DIR")).join("..").join(name)).expect("a file of the repository")
-}
+use reading::{stored, words};
 
 /// The indented blocks behind the heading of the worked example.
 fn blocks() -> Vec<Vec<String>> {
-    let page = String::from_utf8(file("docs/PLAY.md")).expect("plain letters");
+    let page = stored::text("docs/PLAY.md");
     let (_, part) = page.split_once("## A worked example\n").expect("there is one");
     let mut blocks = vec![vec![]];
     for line in part.lines().take_while(|line| !line.starts_with("## ")) {
@@ -33,10 +27,9 @@ fn bytes(line: &str) -> Vec<u8> {
 fn the_page_tells_the_play() {
     let blocks = blocks();
     let [words, hex, lines] = &blocks[..] else { panic!("words, bytes and lines, and no others: {blocks:#?}") };
-    let play = file("plays/worked.play");
+    let play = stored::bytes("plays/worked.play");
     assert_eq!(words::read(&words.join("\n")).expect("a play").write().as_ref(), Some(&play));
     assert_eq!(hex.iter().flat_map(|line| bytes(line)).collect::<Vec<u8>>(), play);
-    assert_eq!(lines.join("\n") + "\n", String::from_utf8(file("plays/worked.lines")).expect("plain letters"));
-    let page = String::from_utf8(file("docs/PLAY.md")).expect("plain letters");
-    assert!(page.contains(&format!("Its {} bytes:", play.len())));
+    assert_eq!(lines.join("\n") + "\n", stored::text("plays/worked.lines"));
+    assert!(stored::text("docs/PLAY.md").contains(&format!("Its {} bytes:", play.len())));
 }

@@ -1,9 +1,9 @@
 //! One call made on two sides, and every difference that a caller could see.
 
-use crate::call::{After, Call, Outputs, Side};
-use crate::memory::{slot, HEADER};
-use crate::unit::Shape;
-use crate::{proved, reading};
+use crate::proved;
+use reading::memory::HEADER;
+use reading::shape::Shape;
+use reading::unit_call::{self, After, Call, Outputs, Side};
 
 /// What both sides show after the call, or in words where they differ.
 pub fn on(sides: [Side; 2], memory: &[u8], call: &Call, outputs: Outputs) -> Result<After, String> {
@@ -22,7 +22,7 @@ pub fn on(sides: [Side; 2], memory: &[u8], call: &Call, outputs: Outputs) -> Res
 }
 
 /// The library's side first, and the reading's second.
-pub const SIDES: [Side; 2] = [proved::after, reading::after];
+pub const SIDES: [Side; 2] = [proved::after, unit_call::after];
 
 /// Panics where the library and the reading differ; `context` says how this memory came about.
 pub fn agree(context: &str, memory: &[u8], call: &Call, outputs: Outputs) -> After {
@@ -31,11 +31,11 @@ pub fn agree(context: &str, memory: &[u8], call: &Call, outputs: Outputs) -> Aft
 
 /// A byte's place in a memory, in words; by the shape that the memory named before the call.
 fn place(memory: &[u8], at: usize) -> String {
-    let shape = memory.get(1).and_then(|byte| Shape::named(*byte));
+    let shape = memory.get(1).and_then(|byte| Shape::of(*byte));
     match (at.checked_sub(HEADER), shape) {
         (None, _) => format!("byte {at}, of the header"),
         (Some(_), None) => format!("byte {at}, of a memory of no shape"),
-        (Some(past), Some(shape)) => format!("byte {at}, byte {} of slot {}", past % slot(shape), past / slot(shape)),
+        (Some(past), Some(shape)) => format!("byte {at}, byte {} of slot {}", past % shape.slot(), past / shape.slot()),
     }
 }
 

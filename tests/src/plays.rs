@@ -1,9 +1,8 @@
-//! The play book's C entry of the proved library, over slices, and what the reading of the yard (the package reading) wants of it.
+//! The play book's C entry of the proved library, over slices, and what the reading wants of it.
 
-use std::fs;
-use std::path::Path;
-use yard_reading::book;
-use yard_reading::play::Play;
+use crate::fence;
+use reading::play::Play;
+use reading::{book, stored};
 
 mod c {
     extern "C" {
@@ -33,23 +32,13 @@ const LINES: u32 = 0xDEAD_0001;
 const WRITTEN: u64 = 0xDEAD_0002_DEAD_0003;
 const BLANK: u8 = 0xB7;
 
-/// Bytes on both sides of the buffer, which no call may touch.
-const FENCE: usize = 64;
-const POST: u8 = 0xA5;
-
 /// By the library, with a buffer of this length.
 pub fn shown(file: &[u8], from: u32, length: usize) -> After {
-    let mut yard = vec![POST; FENCE + length + FENCE];
-    yard[FENCE..FENCE + length].fill(BLANK);
-    let out = &mut yard[FENCE..FENCE + length];
     let (mut lines, mut written) = (LINES, WRITTEN);
     // a slice's pointer and length are what the library asks for, and borrows keep what is written apart
-    let answer = unsafe {
+    let (answer, out) = fence::lent(&vec![BLANK; length], &"play_lines", |out| unsafe {
         c::play_lines(file.as_ptr(), file.len(), from, out.as_mut_ptr(), out.len(), &mut lines, &mut written)
-    };
-    let out = out.to_vec();
-    let fences = yard[..FENCE].iter().chain(&yard[FENCE + length..]);
-    assert!(fences.copied().all(|byte| byte == POST), "play_lines wrote outside the buffer it was lent");
+    });
     After { answer, lines, written, out }
 }
 
@@ -90,10 +79,9 @@ pub fn agree(context: &str, file: &[u8], from: u32, length: usize) -> After {
 
 /// The plays of plays/: name, bytes and lines.
 pub fn plays() -> Vec<(String, Vec<u8>, Vec<u8>)> {
-    let folder = Path::new(env!("CARGO_MANIFEST_DIR")).join("../plays");
-    let read = |name: &str, ending: &str| fs::read(folder.join(format!("{name}.{ending}"))).expect("a file of plays/");
-    let paths = fs::read_dir(&folder).expect("the plays").map(|entry| entry.expect("a file").path());
-    let names = paths.filter(|path| path.extension().is_some_and(|ending| ending == "play"));
-    let names = names.map(|path| path.file_stem().unwrap().to_string_lossy().into_owned());
-    names.map(|name| (name.clone(), read(&name, "play"), read(&name, "lines"))).collect()
+    let whole = |name: String| {
+        let [file, lines] = ["play", "lines"].map(|ending| stored::play(&name, ending));
+        (name, file, lines)
+    };
+    stored::plays("play").into_iter().map(whole).collect()
 }

@@ -1,11 +1,11 @@
 //! A long sequence of random calls on one memory, both sides compared after each.
 
-use crate::call::{Call, Side};
 use crate::compare;
-use crate::memory::{parse, MEMORY};
 use crate::proved;
 use crate::random::Random;
 use crate::weather::{outputs, Weather};
+use reading::memory::{decode, SIZE};
+use reading::unit_call::{Call, Side};
 use std::collections::BTreeMap;
 
 /// How often each call gave each answer.
@@ -15,7 +15,7 @@ pub type Tally = BTreeMap<(&'static str, u8), u64>;
 /// even. `reading` is held to the library.
 pub fn sequence(reading: Side, weather: &Weather, seed: u64, steps: usize, tally: &mut Tally) -> Result<(), String> {
     let mut random = Random::new(seed);
-    let mut memory = random.bytes(MEMORY);
+    let mut memory = random.bytes(SIZE);
     let first = Call::Fresh { number: 1 + random.below(8) as u32, shape: (seed % 2) as u8 };
     let second = Call::Prune { epoch: 1, position: weather.floor };
     for step in 0..steps {
@@ -23,7 +23,7 @@ pub fn sequence(reading: Side, weather: &Weather, seed: u64, steps: usize, tally
             0 => first.clone(),
             1 => second.clone(),
             _ => {
-                let unit = parse(&memory).ok_or(format!("{}, seed {seed}, step {step}: not good", weather.name))?;
+                let unit = decode(&memory).ok_or(format!("{}, seed {seed}, step {step}: not good", weather.name))?;
                 weather.call(&mut random, &unit)
             }
         };

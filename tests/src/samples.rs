@@ -1,53 +1,55 @@
 //! Units to try calls on: fresh, with pages of each kind, half full, full, pruned, ended, sealed for good.
 
-use crate::call::{Call, Outputs};
-use crate::unit::{Page, Shape, Unit, POSITIONS};
+use reading::no::LIMIT;
+use reading::shape::Shape;
+use reading::unit::{Cell, Unit};
+use reading::unit_call::Call;
 
-/// Something in the outputs that no call gives.
-pub const UNTOUCHED: Outputs = Outputs { kind: 0xEE, start: 0xDEAD_0001, length: 0xDEAD_0002, edge: u64::MAX };
-
-/// A page for the slot with this index: data of many lengths, junk and trimmed.
-fn mixed(shape: Shape, index: u64) -> Page {
-    let longest = shape.page() as u64;
+/// What is in the slot with this index: data of many lengths, junk and trimmed.
+fn mixed(shape: Shape, index: u64) -> Cell {
+    let longest = shape.payload() as u64;
     match index % 5 {
-        3 => Page::Junk,
-        4 => Page::Trimmed,
-        _ => Page::Data((0..(index * longest / 32) % (longest + 1)).map(|byte| 255 - 3 * byte as u8).collect()),
+        3 => Cell::JUNK,
+        4 => Cell::Trimmed,
+        _ => {
+            let bytes = (0..(index * longest / 32) % (longest + 1)).map(|byte| 255 - 3 * byte as u8);
+            Cell::data(&bytes.collect::<Vec<u8>>())
+        }
     }
 }
 
 /// The samples of both shapes.
 pub fn units() -> Vec<(String, Unit)> {
     let named = |shape| move |(name, unit)| (format!("{shape:?}, {name}"), unit);
-    Shape::BOTH.into_iter().flat_map(|shape| of_shape(shape).into_iter().map(named(shape))).collect()
+    Shape::ALL.into_iter().flat_map(|shape| of_shape(shape).into_iter().map(named(shape))).collect()
 }
 
 fn of_shape(shape: Shape) -> Vec<(&'static str, Unit)> {
     let all = shape.slots() as u64;
     let mixed = |index| mixed(shape, index);
-    let full_page = || Page::Data(vec![0xFF; shape.page()]);
-    let unit = |number, sealed, floor, slots: Vec<(u64, Page)>| Unit {
-        shape,
+    let full_page = || Cell::data(&vec![0xFF; shape.payload()]);
+    let unit = |number, sealed, floor, cells: Vec<(u64, Cell)>| Unit {
         number,
+        shape,
         sealed,
         floor,
-        slots: slots.into_iter().collect(),
+        cells: cells.into_iter().collect(),
     };
     vec![
         ("fresh", unit(1, 0, 0, vec![])),
-        ("one empty page", unit(2, 0, 0, vec![(0, Page::Data(Vec::new()))])),
+        ("one empty page", unit(2, 0, 0, vec![(0, Cell::data(&[]))])),
         (
             "pages of each kind",
-            unit(3, 1, 5, vec![(5, Page::Junk), (7, full_page()), (8, Page::Trimmed), (300, mixed(1))]),
+            unit(3, 1, 5, vec![(5, Cell::JUNK), (7, full_page()), (8, Cell::Trimmed), (300, mixed(1))]),
         ),
         ("half full", unit(4, 1, 3, (0..all / 2).map(|i| (3 + 2 * i, mixed(i))).collect())),
         ("nearly full", unit(4, 6, 0, (0..all - 1).map(|i| (2 * i, mixed(i))).collect())),
         ("full of data", unit(5, 0, 0, (0..all).map(|i| (i, full_page())).collect())),
         ("full and mixed", unit(6, 2, 10, (0..all).map(|i| (10 + 3 * i, mixed(i))).collect())),
-        ("full of trimmed", unit(7, 0, 1, (0..all).map(|i| (1 + i, Page::Trimmed)).collect())),
+        ("full of trimmed", unit(7, 0, 1, (0..all).map(|i| (1 + i, Cell::Trimmed)).collect())),
         ("pruned", unit(8, 0, 1 << 33, vec![])),
-        ("pruned to the end", unit(1, 3, POSITIONS, vec![])),
-        ("at the last position", unit(2, 0, POSITIONS - 2, vec![(POSITIONS - 1, full_page())])),
+        ("pruned to the end", unit(1, 3, LIMIT, vec![])),
+        ("at the last position", unit(2, 0, LIMIT - 2, vec![(LIMIT - 1, full_page())])),
         ("sealed up to the last epoch but one", unit(3, u32::MAX - 1, 0, (0..9).map(|i| (i, mixed(i))).collect())),
         ("sealed for good", unit(4, u32::MAX, 0, (0..9).map(|i| (i, mixed(i))).collect())),
     ]
@@ -57,8 +59,8 @@ fn of_shape(shape: Shape) -> Vec<(&'static str, Unit)> {
 pub fn probes(unit: &Unit) -> Vec<Call> {
     let epoch = unit.sealed.saturating_add(1);
     let edge = unit.edge();
-    let last = unit.slots.keys().next_back().copied().unwrap_or(unit.floor);
-    let first = unit.slots.keys().next().copied().unwrap_or(unit.floor);
+    let last = unit.cells.keys().next_back().copied().unwrap_or(unit.floor);
+    let first = unit.cells.keys().next().copied().unwrap_or(unit.floor);
     vec![
         Call::Read { epoch, position: first },
         Call::Read { epoch, position: last },

@@ -1,7 +1,7 @@
 //! Calls on a small stack that is painted beforehand, and how deep the paint is touched afterwards.
 
-use crate::call::{After, Call, Outputs};
 use crate::library::c;
+use reading::unit_call::{After, Call, Outputs};
 use std::arch::asm;
 use std::ffi::c_void;
 

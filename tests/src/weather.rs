@@ -1,8 +1,10 @@
 //! Random calls, of several tempers: a log that fills up, one that turns over, one at the end of all positions.
 
-use crate::call::{Call, Outputs};
 use crate::random::Random;
-use crate::unit::{Shape, Unit, POSITIONS};
+use reading::no::LIMIT;
+use reading::shape::Shape;
+use reading::unit::Unit;
+use reading::unit_call::{Call, Outputs};
 
 /// How often each call is made, and what numbers it bears.
 pub struct Weather {
@@ -19,13 +21,13 @@ pub const WEATHERS: [Weather; 6] = [
     Weather { name: "filling", floor: 0, shares: [1, 1200, 400, 150, 10, 15], wild: 0 },
     Weather { name: "turning over", floor: 70_000, shares: [1, 500, 150, 100, 100, 20], wild: 0 },
     Weather { name: "trimming", floor: 0, shares: [1, 250, 150, 500, 10, 10], wild: 0 },
-    Weather { name: "near the end", floor: POSITIONS - 150, shares: [0, 600, 200, 150, 15, 10], wild: 20 },
+    Weather { name: "near the end", floor: LIMIT - 150, shares: [0, 600, 200, 150, 15, 10], wild: 20 },
     Weather { name: "wild", floor: 0, shares: [10, 400, 200, 150, 60, 60], wild: 150 },
     Weather { name: "crossing 2^32", floor: (1 << 32) - 60, shares: [0, 600, 200, 100, 10, 10], wild: 0 },
 ];
 
 const EPOCHS: [u32; 6] = [0, 1, 2, 1 << 31, u32::MAX - 1, u32::MAX];
-const FAR: [u64; 10] = [0, 1, 255, 256, POSITIONS - 2, POSITIONS - 1, POSITIONS, POSITIONS + 1, u64::MAX - 1, u64::MAX];
+const FAR: [u64; 10] = [0, 1, 255, 256, LIMIT - 2, LIMIT - 1, LIMIT, LIMIT + 1, u64::MAX - 1, u64::MAX];
 /// Lengths that are one too many in a shape, and those that a byte, or two, would cut to those of a page.
 const LONG: [usize; 8] = [33, 81, 255, 256, 256 + 32, 6168, 65536, 65536 + 7];
 
@@ -76,7 +78,7 @@ impl Weather {
         if random.chance(self.wild) {
             return if random.chance(200) { random.next() } else { random.one_of(&FAR) };
         }
-        let held = unit.slots.keys().nth(random.below(unit.slots.len() as u64 + 1) as usize);
+        let held = unit.cells.keys().nth(random.below(unit.cells.len() as u64 + 1) as usize);
         let near = match (random.below(4), held) {
             (0, _) => unit.floor,
             (1, _) => unit.edge(),
@@ -103,10 +105,10 @@ impl Weather {
 fn page(random: &mut Random, shape: Shape) -> (u8, Vec<u8>) {
     match random.below(40) {
         0 => (random.next() as u8, Vec::new()),
-        1 => (random.one_of(&[0, 1, 2, 3, 4, 255]), any_bytes(random, shape.page() + 8)),
+        1 => (random.one_of(&[0, 1, 2, 3, 4, 255]), any_bytes(random, shape.payload() + 8)),
         2 => (1, vec![7; random.one_of(&LONG)]),
         3..=9 => (2, Vec::new()),
-        _ => (1, any_bytes(random, shape.page())),
+        _ => (1, any_bytes(random, shape.payload())),
     }
 }
 

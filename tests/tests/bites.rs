@@ -1,10 +1,9 @@
 //! The comparison bites: readings that are wrong in one place each are told from the library by the same random calls.
 
-use station_tests::call::{After, Call, Outputs, Side};
-use station_tests::memory::{slot, HEADER, MEMORY};
-use station_tests::reading;
+use reading::memory::{HEADER, SIZE};
+use reading::shape::Shape;
+use reading::unit_call::{self, After, Call, Outputs, Side};
 use station_tests::run::{sequence, Tally};
-use station_tests::unit::Shape;
 use station_tests::weather::WEATHERS;
 
 /// Slots in use, as the header has them.
@@ -14,11 +13,11 @@ fn count(memory: &[u8]) -> usize {
 
 /// The shape that the memory names: the sequences only ever have good memory.
 fn shape(memory: &[u8]) -> Shape {
-    Shape::named(memory[1]).unwrap_or(Shape::Small)
+    Shape::of(memory[1]).unwrap_or(Shape::Small)
 }
 
 fn junk_as_zeros(memory: &[u8], call: &Call, outputs: Outputs) -> After {
-    let mut after = reading::after(memory, call, outputs);
+    let mut after = unit_call::after(memory, call, outputs);
     if matches!(call, Call::Read { .. }) && after.answer == 0 && after.outputs.kind == 2 {
         after.outputs.length = 32;
     }
@@ -26,7 +25,7 @@ fn junk_as_zeros(memory: &[u8], call: &Call, outputs: Outputs) -> After {
 }
 
 fn junk_as_data(memory: &[u8], call: &Call, outputs: Outputs) -> After {
-    let mut after = reading::after(memory, call, outputs);
+    let mut after = unit_call::after(memory, call, outputs);
     if matches!(call, Call::Read { .. }) && after.answer == 0 {
         after.outputs.kind = 1;
     }
@@ -34,7 +33,7 @@ fn junk_as_data(memory: &[u8], call: &Call, outputs: Outputs) -> After {
 }
 
 fn payload_one_byte_late(memory: &[u8], call: &Call, outputs: Outputs) -> After {
-    let mut after = reading::after(memory, call, outputs);
+    let mut after = unit_call::after(memory, call, outputs);
     if matches!(call, Call::Read { .. }) && after.answer == 0 {
         after.outputs.start += 1;
     }
@@ -46,11 +45,11 @@ fn all_refused(memory: &[u8], _: &Call, outputs: Outputs) -> After {
 }
 
 fn no_work(memory: &[u8], call: &Call, outputs: Outputs) -> After {
-    After { memory: memory.to_vec(), ..reading::after(memory, call, outputs) }
+    After { memory: memory.to_vec(), ..unit_call::after(memory, call, outputs) }
 }
 
 fn made_up_edge(memory: &[u8], call: &Call, outputs: Outputs) -> After {
-    let mut after = reading::after(memory, call, outputs);
+    let mut after = unit_call::after(memory, call, outputs);
     if matches!(call, Call::Seal { .. }) && after.answer == 0 {
         after.outputs.edge = count(memory) as u64;
     }
@@ -58,7 +57,7 @@ fn made_up_edge(memory: &[u8], call: &Call, outputs: Outputs) -> After {
 }
 
 fn refusals_clear_the_outputs(memory: &[u8], call: &Call, outputs: Outputs) -> After {
-    let mut after = reading::after(memory, call, outputs);
+    let mut after = unit_call::after(memory, call, outputs);
     if matches!(call, Call::Read { .. }) && after.answer != 0 {
         after.outputs.length = 0;
     }
@@ -70,14 +69,14 @@ fn a_sealed_epoch_still_writes(memory: &[u8], call: &Call, outputs: Outputs) -> 
         Call::Write { epoch, position, kind, data } => {
             let call =
                 Call::Write { epoch: epoch.saturating_add(1), position: *position, kind: *kind, data: data.clone() };
-            reading::after(memory, &call, outputs)
+            unit_call::after(memory, &call, outputs)
         }
-        _ => reading::after(memory, call, outputs),
+        _ => unit_call::after(memory, call, outputs),
     }
 }
 
 fn full_before_written(memory: &[u8], call: &Call, outputs: Outputs) -> After {
-    let mut after = reading::after(memory, call, outputs);
+    let mut after = unit_call::after(memory, call, outputs);
     if after.answer == 6 && count(memory) == shape(memory).slots() {
         after.answer = 8;
     }
@@ -85,9 +84,9 @@ fn full_before_written(memory: &[u8], call: &Call, outputs: Outputs) -> After {
 }
 
 fn page_before_position(memory: &[u8], call: &Call, outputs: Outputs) -> After {
-    let mut after = reading::after(memory, call, outputs);
+    let mut after = unit_call::after(memory, call, outputs);
     if let Call::Write { data, .. } = call {
-        if after.answer == 2 && data.len() > shape(memory).page() {
+        if after.answer == 2 && data.len() > shape(memory).payload() {
             after.answer = 3;
         }
     }
@@ -99,13 +98,13 @@ fn lengths_cut_to_a_byte(memory: &[u8], call: &Call, outputs: Outputs) -> After 
     if let Call::Write { data, .. } = &mut call {
         data.truncate(data.len() % 256);
     }
-    reading::after(memory, &call, outputs)
+    unit_call::after(memory, &call, outputs)
 }
 
 fn trims_keep_the_last_byte(memory: &[u8], call: &Call, outputs: Outputs) -> After {
-    let mut after = reading::after(memory, call, outputs);
+    let mut after = unit_call::after(memory, call, outputs);
     if matches!(call, Call::Trim { .. }) && count(memory) == count(&after.memory) {
-        let size = slot(shape(memory));
+        let size = shape(memory).slot();
         let lasts = (1..=count(memory)).map(|slots| HEADER + slots * size - 1);
         lasts.for_each(|at| after.memory[at] = memory[at]);
     }
@@ -113,18 +112,18 @@ fn trims_keep_the_last_byte(memory: &[u8], call: &Call, outputs: Outputs) -> Aft
 }
 
 fn pruned_slots_are_left(memory: &[u8], call: &Call, outputs: Outputs) -> After {
-    let mut after = reading::after(memory, call, outputs);
+    let mut after = unit_call::after(memory, call, outputs);
     if matches!(call, Call::Prune { .. }) {
-        let free = HEADER + count(&after.memory) * slot(shape(memory));
+        let free = HEADER + count(&after.memory) * shape(memory).slot();
         after.memory[free..].copy_from_slice(&memory[free..]);
     }
     after
 }
 
 fn one_bit_more(memory: &[u8], call: &Call, outputs: Outputs) -> After {
-    let mut after = reading::after(memory, call, outputs);
+    let mut after = unit_call::after(memory, call, outputs);
     if after.answer == 8 {
-        after.memory[MEMORY - 1] ^= 128;
+        after.memory[SIZE - 1] ^= 128;
     }
     after
 }
@@ -132,15 +131,15 @@ fn one_bit_more(memory: &[u8], call: &Call, outputs: Outputs) -> After {
 fn every_page_is_short(memory: &[u8], call: &Call, outputs: Outputs) -> After {
     match call {
         Call::Write { data, .. } if data.len() > 32 => {
-            let after = reading::after(memory, call, outputs);
+            let after = unit_call::after(memory, call, outputs);
             After { answer: if after.answer == 2 { 2 } else { 3 }, outputs, memory: memory.to_vec() }
         }
-        _ => reading::after(memory, call, outputs),
+        _ => unit_call::after(memory, call, outputs),
     }
 }
 
 fn half_as_many_slots(memory: &[u8], call: &Call, outputs: Outputs) -> After {
-    let after = reading::after(memory, call, outputs);
+    let after = unit_call::after(memory, call, outputs);
     if matches!(call, Call::Write { .. }) && after.answer == 0 && count(memory) >= 64 {
         return After { answer: 8, outputs, memory: memory.to_vec() };
     }
@@ -149,13 +148,15 @@ fn half_as_many_slots(memory: &[u8], call: &Call, outputs: Outputs) -> After {
 
 fn fresh_units_are_small(memory: &[u8], call: &Call, outputs: Outputs) -> After {
     match call {
-        Call::Fresh { number, shape: 1 } => reading::after(memory, &Call::Fresh { number: *number, shape: 0 }, outputs),
-        _ => reading::after(memory, call, outputs),
+        Call::Fresh { number, shape: 1 } => {
+            unit_call::after(memory, &Call::Fresh { number: *number, shape: 0 }, outputs)
+        }
+        _ => unit_call::after(memory, call, outputs),
     }
 }
 
 fn an_unknown_shape_is_nobody(memory: &[u8], call: &Call, outputs: Outputs) -> After {
-    let mut after = reading::after(memory, call, outputs);
+    let mut after = unit_call::after(memory, call, outputs);
     if after.answer == 10 {
         after.answer = 17;
     }
@@ -193,7 +194,7 @@ fn wrong_readings_are_caught() {
     for (name, side) in wrong {
         assert!(is_caught(side), "no random call tells the reading `{name}` from the library");
     }
-    assert!(!is_caught(reading::after), "the right reading is told from the library");
+    assert!(!is_caught(unit_call::after), "the right reading is told from the library");
 }
 
 #[test]

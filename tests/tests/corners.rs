@@ -1,10 +1,11 @@
 //! The corners of every argument, on every sample of a unit: all of them together, so that several refusals apply at once.
 
-use station_tests::call::Call;
+use reading::memory::encode;
+use reading::no::LIMIT;
+use reading::unit::Unit;
+use reading::unit_call::{Call, Outputs};
 use station_tests::compare::agree;
-use station_tests::memory::print;
-use station_tests::samples::{units, UNTOUCHED};
-use station_tests::unit::{Unit, POSITIONS};
+use station_tests::samples::units;
 
 /// Extreme epochs, and those around the sealed one.
 fn epochs(unit: &Unit) -> Vec<u32> {
@@ -17,10 +18,10 @@ fn epochs(unit: &Unit) -> Vec<u32> {
 
 /// Extreme positions, and those around the floor, the edge and some slots.
 fn positions(unit: &Unit) -> Vec<u64> {
-    let mut near = vec![0, 256, 1 << 32, POSITIONS, unit.floor, unit.edge()];
-    near.extend(unit.slots.keys().step_by(37).copied());
+    let mut near = vec![0, 256, 1 << 32, LIMIT, unit.floor, unit.edge()];
+    near.extend(unit.cells.keys().step_by(37).copied());
     let mut positions: Vec<u64> = near.iter().flat_map(|p| [p.saturating_sub(1), *p, p + 1]).collect();
-    positions.extend([2 * POSITIONS, u64::MAX - 1, u64::MAX]);
+    positions.extend([2 * LIMIT, u64::MAX - 1, u64::MAX]);
     positions.sort();
     positions.dedup();
     positions
@@ -29,11 +30,11 @@ fn positions(unit: &Unit) -> Vec<u64> {
 /// Makes the calls on every sample, for each of its epochs and positions.
 fn everywhere(calls: impl Fn(u32, u64) -> Vec<Call>) {
     for (name, unit) in units() {
-        let memory = print(&unit);
+        let memory = encode(&unit);
         for epoch in epochs(&unit) {
             for position in positions(&unit) {
                 for call in calls(epoch, position) {
-                    agree(&name, &memory, &call, UNTOUCHED);
+                    agree(&name, &memory, &call, Outputs::UNTOUCHED);
                 }
             }
         }
@@ -61,7 +62,7 @@ fn writes() {
 fn seals() {
     for (name, unit) in units() {
         for epoch in epochs(&unit) {
-            agree(&name, &print(&unit), &Call::Seal { epoch }, UNTOUCHED);
+            agree(&name, &encode(&unit), &Call::Seal { epoch }, Outputs::UNTOUCHED);
         }
     }
 }
@@ -71,7 +72,7 @@ fn fresh_numbers() {
     for (name, unit) in units() {
         for number in (0..300).chain([1 << 16 | 1, 1 << 24 | 1, 1 << 31 | 1, u32::MAX]) {
             for shape in [0, 1] {
-                let after = agree(&name, &print(&unit), &Call::Fresh { number, shape }, UNTOUCHED);
+                let after = agree(&name, &encode(&unit), &Call::Fresh { number, shape }, Outputs::UNTOUCHED);
                 assert_eq!(after.answer, if (1..=8).contains(&number) { 0 } else { 17 }, "fresh {number}");
             }
         }
@@ -83,7 +84,7 @@ fn fresh_shapes() {
     for (name, unit) in units() {
         for shape in 0..=255 {
             for number in [0, 1, 8, 9] {
-                let after = agree(&name, &print(&unit), &Call::Fresh { number, shape }, UNTOUCHED);
+                let after = agree(&name, &encode(&unit), &Call::Fresh { number, shape }, Outputs::UNTOUCHED);
                 let expected = match (shape, number) {
                     (2.., _) => 10,
                     (_, 0 | 9) => 17,
@@ -98,7 +99,7 @@ fn fresh_shapes() {
 #[test]
 fn every_kind_and_length() {
     for (name, unit) in units() {
-        let memory = print(&unit);
+        let memory = encode(&unit);
         let (epoch, position) = (unit.sealed.saturating_add(1), unit.edge());
         for kind in 0..=255 {
             for length in (0..=88).chain([255, 256, 257, 288, 6168, 65536, 65568]) {
@@ -107,7 +108,7 @@ fn every_kind_and_length() {
                     continue;
                 }
                 let data = (0..length).map(|byte| byte as u8).collect();
-                agree(&name, &memory, &Call::Write { epoch, position, kind, data }, UNTOUCHED);
+                agree(&name, &memory, &Call::Write { epoch, position, kind, data }, Outputs::UNTOUCHED);
             }
         }
     }

@@ -1,11 +1,13 @@
 //! Good memory, sentence by sentence: each broken alone, and each at the last value that is still good.
 
-use station_tests::call::Call;
+use reading::memory::{decode, encode, HEADER, SIZE};
+use reading::no::LIMIT;
+use reading::shape::Shape;
+use reading::unit::{Cell, Unit};
+use reading::unit_call::{self, Call, Outputs};
 use station_tests::compare::agree;
-use station_tests::memory::{parse, print, slot, HEADER};
 use station_tests::random::Random;
-use station_tests::samples::{probes, units, UNTOUCHED};
-use station_tests::unit::{Page, Shape, Unit, POSITIONS};
+use station_tests::samples::{probes, units};
 use station_tests::weather::WEATHERS;
 
 /// A good memory of one shape, to be broken in one place.
@@ -14,29 +16,29 @@ struct Whole(Shape);
 impl Whole {
     /// Slot 0: data of 4 bytes at 5; slot 1: junk at 7; slot 2: trimmed at 9. The floor is 5.
     fn three(&self) -> Unit {
-        let slots = [(5, Page::Data(vec![9, 8, 7, 6])), (7, Page::Junk), (9, Page::Trimmed)];
-        Unit { shape: self.0, number: 3, sealed: 2, floor: 5, slots: slots.into_iter().collect() }
+        let cells = [(5, Cell::data(&[9, 8, 7, 6])), (7, Cell::JUNK), (9, Cell::Trimmed)];
+        Unit { number: 3, shape: self.0, sealed: 2, floor: 5, cells: cells.into_iter().collect() }
     }
 
     /// A byte of slot `index`.
     fn slot(&self, index: usize, byte: usize) -> usize {
-        HEADER + index * slot(self.0) + byte
+        HEADER + index * self.0.slot() + byte
     }
 
     /// Stores numbers of so many bytes at offsets, and says whether the memory is good then.
     fn edited(&self, what: &str, edits: &[(usize, usize, u64)], good: bool) {
-        let mut memory = print(&self.three());
+        let mut memory = encode(&self.three());
         for (at, width, number) in edits {
             memory[*at..at + width].copy_from_slice(&number.to_le_bytes()[..*width]);
         }
         let what = format!("{:?}, {what}", self.0);
-        assert_eq!(parse(&memory).is_some(), good, "the reading on: {what}");
+        assert_eq!(decode(&memory).is_some(), good, "the reading on: {what}");
         for call in probes(&self.three()) {
-            let after = agree(&what, &memory, &call, UNTOUCHED);
+            let after = agree(&what, &memory, &call, Outputs::UNTOUCHED);
             assert_eq!(after.answer != 1, good, "{call:?} on: {what}");
         }
         for shape in [0, 1] {
-            let fresh = agree(&what, &memory, &Call::Fresh { number: 3, shape }, UNTOUCHED);
+            let fresh = agree(&what, &memory, &Call::Fresh { number: 3, shape }, Outputs::UNTOUCHED);
             assert_eq!(fresh.answer, 0, "whatever the bytes were: {what}");
         }
     }
@@ -44,7 +46,7 @@ impl Whole {
 
 /// The same in both shapes.
 fn in_both(tried: fn(Whole)) {
-    Shape::BOTH.into_iter().for_each(|shape| tried(Whole(shape)));
+    Shape::ALL.into_iter().for_each(|shape| tried(Whole(shape)));
 }
 
 #[test]
@@ -60,8 +62,8 @@ fn header() {
         whole.edited("sealed epoch of all ones but the last", &[(4, 4, 0xFFFF_FFFE)], true);
         whole.edited("floor above the first slot", &[(8, 8, 6)], false);
         whole.edited("floor 0", &[(8, 8, 0)], true);
-        whole.edited("floor 2^40 with slots", &[(8, 8, POSITIONS)], false);
-        whole.edited("floor 2^40 without slots", &[(8, 8, POSITIONS), (16, 2, 0)], false);
+        whole.edited("floor 2^40 with slots", &[(8, 8, LIMIT)], false);
+        whole.edited("floor 2^40 without slots", &[(8, 8, LIMIT), (16, 2, 0)], false);
         whole.edited("floor 2^63", &[(8, 8, 1 << 63)], false);
         for byte in 18..24 {
             whole.edited("one of the header's six bytes", &[(byte, 1, 1)], false);
@@ -74,7 +76,7 @@ fn header() {
 fn shapes() {
     in_both(|whole| {
         for byte in 0..=255 {
-            whole.edited(&format!("shape {byte}"), &[(1, 1, byte)], byte == whole.0 as u64);
+            whole.edited(&format!("shape {byte}"), &[(1, 1, byte)], byte == whole.0.byte().into());
         }
     });
 }
@@ -99,8 +101,8 @@ fn positions() {
         whole.edited("falling positions", &[(at(1), 8, 10)], false);
         whole.edited("positions with no gap", &[(at(1), 8, 6)], true);
         whole.edited("first position below the floor", &[(at(0), 8, 4)], false);
-        whole.edited("last position", &[(at(2), 8, POSITIONS - 1)], true);
-        whole.edited("position 2^40", &[(at(2), 8, POSITIONS)], false);
+        whole.edited("last position", &[(at(2), 8, LIMIT - 1)], true);
+        whole.edited("position 2^40", &[(at(2), 8, LIMIT)], false);
         whole.edited("position of all ones", &[(at(2), 8, u64::MAX)], false);
         whole.edited("position 9 + 2^32", &[(at(2), 8, 9 + (1 << 32))], true);
         whole.edited("rising only in the low bytes", &[(at(1), 8, 7 + (1 << 32))], false);
@@ -111,7 +113,7 @@ fn positions() {
 fn kinds_and_lengths() {
     in_both(|whole| {
         let (kind, length) = (|index| whole.slot(index, 8), |index| whole.slot(index, 9));
-        let longest = whole.0.page() as u64;
+        let longest = whole.0.payload() as u64;
         whole.edited("kind 0", &[(kind(1), 1, 0)], false);
         whole.edited("kind 4", &[(kind(1), 1, 4)], false);
         whole.edited("kind 255", &[(kind(1), 1, 255)], false);
@@ -135,7 +137,7 @@ fn zeros() {
             whole.edited("one of a slot's six bytes", &[(whole.slot(0, byte), 1, 1)], false);
             whole.edited("one of a slot's six bytes", &[(whole.slot(2, byte), 1, 64)], false);
         }
-        for byte in 16..slot(whole.0) {
+        for byte in 16..whole.0.slot() {
             whole.edited("payload of data", &[(whole.slot(0, byte), 1, 1)], byte < 20);
             whole.edited("payload of junk", &[(whole.slot(1, byte), 1, 1)], false);
             whole.edited("payload of trimmed", &[(whole.slot(2, byte), 1, 128)], false);
@@ -152,9 +154,9 @@ fn zeros() {
 #[test]
 fn random_bytes_are_not_good() {
     for seed in 0..200 {
-        let memory = Random::new(seed).bytes(6168);
+        let memory = Random::new(seed).bytes(SIZE);
         for call in probes(&Whole(Shape::Small).three()) {
-            assert_eq!(agree(&format!("random bytes, seed {seed}"), &memory, &call, UNTOUCHED).answer, 1);
+            assert_eq!(agree(&format!("random bytes, seed {seed}"), &memory, &call, Outputs::UNTOUCHED).answer, 1);
         }
     }
 }
@@ -162,16 +164,16 @@ fn random_bytes_are_not_good() {
 #[test]
 fn parsing_undoes_printing() {
     for (name, unit) in units() {
-        assert_eq!(parse(&print(&unit)).as_ref(), Some(&unit), "{name}");
+        assert_eq!(decode(&encode(&unit)).as_ref(), Some(&unit), "{name}");
     }
     in_both(|whole| {
         let mut random = Random::new(1);
         let mut unit = whole.three();
         for _ in 0..2000 {
             let call = WEATHERS[0].call(&mut random, &unit);
-            let after = station_tests::reading::after(&print(&unit), &call, UNTOUCHED);
-            unit = parse(&after.memory).expect("a unit's own memory is good");
-            assert_eq!(print(&unit), after.memory, "after {call:?}");
+            let after = unit_call::after(&encode(&unit), &call, Outputs::UNTOUCHED);
+            unit = decode(&after.memory).expect("a unit's own memory is good");
+            assert_eq!(encode(&unit), after.memory, "after {call:?}");
         }
     });
 }

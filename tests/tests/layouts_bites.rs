@@ -1,13 +1,13 @@
 //! The comparison bites: readings of the layouts that are wrong in one place each are told from the library by the same calls.
 
-use station_tests::layouts::bytes::{parse, print};
-use station_tests::layouts::compare::{on, After, Call, Side};
-use station_tests::layouts::layout::BYTES;
-use station_tests::layouts::{desk, draw, reading};
+use reading::layout_bytes::{decode, encode, BYTES};
+use reading::layout_call::{self, After, Call, Side};
+use station_tests::layouts::compare::on;
+use station_tests::layouts::{desk, draw};
 use station_tests::random::Random;
 
 fn sets_counted_from_one(call: &Call, lent: u64, buffer: &[u8]) -> After {
-    let mut after = reading::after(call, lent, buffer);
+    let mut after = layout_call::after(call, lent, buffer);
     if matches!(call, Call::Set { .. }) && after.answer == 0 {
         after.number += 1;
     }
@@ -17,20 +17,20 @@ fn sets_counted_from_one(call: &Call, lent: u64, buffer: &[u8]) -> After {
 fn a_byte_left_over_is_taken(call: &Call, lent: u64, buffer: &[u8]) -> After {
     match call {
         Call::Good { bytes } if bytes.last().is_some_and(|byte| *byte == 0) => {
-            reading::after(&Call::Good { bytes: bytes[..bytes.len() - 1].to_vec() }, lent, buffer)
+            layout_call::after(&Call::Good { bytes: bytes[..bytes.len() - 1].to_vec() }, lent, buffer)
         }
-        _ => reading::after(call, lent, buffer),
+        _ => layout_call::after(call, lent, buffer),
     }
 }
 
 fn any_unit_section(call: &Call, lent: u64, buffer: &[u8]) -> After {
-    let mut after = reading::after(call, lent, buffer);
+    let mut after = layout_call::after(call, lent, buffer);
     if let Call::Good { bytes } = call {
         let cut = bytes.get(5).filter(|count| **count > 1 && 6 + usize::from(**count) <= bytes.len());
         if let Some(count) = cut {
             let end = 5 + usize::from(*count);
             let shorter = [&bytes[..5], &[count - 1], &bytes[6..end], &bytes[end + 1..]].concat();
-            if parse(&shorter).is_some() {
+            if decode(&shorter).is_some() {
                 after.answer = 0;
             }
         }
@@ -39,10 +39,10 @@ fn any_unit_section(call: &Call, lent: u64, buffer: &[u8]) -> After {
 }
 
 fn lost_before_bad(call: &Call, lent: u64, buffer: &[u8]) -> After {
-    let mut after = reading::after(call, lent, buffer);
+    let mut after = layout_call::after(call, lent, buffer);
     if let Call::Plan { held, drops, edge, .. } = call {
         let plain = Call::Plan { held: held.clone(), drops: drops.clone(), sets: Vec::new(), edge: *edge };
-        if after.answer == 10 && reading::after(&plain, lent, buffer).answer == 13 {
+        if after.answer == 10 && layout_call::after(&plain, lent, buffer).answer == 13 {
             after.answer = 13;
         }
     }
@@ -50,11 +50,11 @@ fn lost_before_bad(call: &Call, lent: u64, buffer: &[u8]) -> After {
 }
 
 fn late_sets_name_nothing(call: &Call, lent: u64, buffer: &[u8]) -> After {
-    let after = reading::after(call, lent, buffer);
+    let after = layout_call::after(call, lent, buffer);
     match call {
         Call::Plan { held, sets, edge, .. } if after.answer == 10 && sets.first().is_some_and(|count| *count > 16) => {
             let call = Call::Plan { held: held.clone(), drops: Vec::new(), sets: sets.clone(), edge: *edge };
-            reading::after(&call, lent, buffer)
+            layout_call::after(&call, lent, buffer)
         }
         _ => after,
     }
@@ -64,14 +64,14 @@ fn the_edge_is_ignored(call: &Call, lent: u64, buffer: &[u8]) -> After {
     match call {
         Call::Plan { held, drops, sets, .. } => {
             let call = Call::Plan { held: held.clone(), drops: drops.clone(), sets: sets.clone(), edge: 0 };
-            reading::after(&call, lent, buffer)
+            layout_call::after(&call, lent, buffer)
         }
-        _ => reading::after(call, lent, buffer),
+        _ => layout_call::after(call, lent, buffer),
     }
 }
 
 fn refusals_clear_the_number(call: &Call, lent: u64, buffer: &[u8]) -> After {
-    let mut after = reading::after(call, lent, buffer);
+    let mut after = layout_call::after(call, lent, buffer);
     if matches!(call, Call::Plan { .. }) && after.answer != 0 {
         after.number = 0;
     }
@@ -79,8 +79,8 @@ fn refusals_clear_the_number(call: &Call, lent: u64, buffer: &[u8]) -> After {
 }
 
 fn what_is_too_long_is_cut(call: &Call, lent: u64, buffer: &[u8]) -> After {
-    let after = reading::after(call, lent, buffer);
-    let whole = reading::after(call, lent, &[0; BYTES]);
+    let after = layout_call::after(call, lent, buffer);
+    let whole = layout_call::after(call, lent, &[0; BYTES]);
     if matches!(call, Call::Plan { .. }) && after.answer == 10 && whole.answer == 0 {
         return After { answer: 10, number: lent, buffer: whole.buffer[..buffer.len()].to_vec() };
     }
@@ -88,11 +88,12 @@ fn what_is_too_long_is_cut(call: &Call, lent: u64, buffer: &[u8]) -> After {
 }
 
 fn any_epoch_is_taken(call: &Call, lent: u64, buffer: &[u8]) -> After {
-    let mut after = reading::after(call, lent, buffer);
+    let mut after = layout_call::after(call, lent, buffer);
     if let (Call::Offer { held, offered }, 11) = (call, after.answer) {
-        let (old, mut new) = (parse(held).expect("good"), parse(offered).expect("good"));
+        let (old, mut new) = (decode(held).expect("good"), decode(offered).expect("good"));
         new.epoch = old.epoch.saturating_add(1);
-        after.answer = reading::after(&Call::Offer { held: held.clone(), offered: print(&new) }, lent, buffer).answer;
+        after.answer =
+            layout_call::after(&Call::Offer { held: held.clone(), offered: encode(&new) }, lent, buffer).answer;
     }
     after
 }
@@ -101,24 +102,25 @@ fn any_shape_is_good(call: &Call, lent: u64, buffer: &[u8]) -> After {
     match call {
         Call::Good { bytes } if bytes.len() > 4 => {
             let small = [&bytes[..4], &[0], &bytes[5..]].concat();
-            reading::after(&Call::Good { bytes: small }, lent, buffer)
+            layout_call::after(&Call::Good { bytes: small }, lent, buffer)
         }
-        _ => reading::after(call, lent, buffer),
+        _ => layout_call::after(call, lent, buffer),
     }
 }
 
 fn a_changed_shape_is_taken(call: &Call, lent: u64, buffer: &[u8]) -> After {
-    let mut after = reading::after(call, lent, buffer);
+    let mut after = layout_call::after(call, lent, buffer);
     if let (Call::Offer { held, offered }, 12) = (call, after.answer) {
-        let (old, mut new) = (parse(held).expect("good"), parse(offered).expect("good"));
+        let (old, mut new) = (decode(held).expect("good"), decode(offered).expect("good"));
         new.shape = old.shape;
-        after.answer = reading::after(&Call::Offer { held: held.clone(), offered: print(&new) }, lent, buffer).answer;
+        after.answer =
+            layout_call::after(&Call::Offer { held: held.clone(), offered: encode(&new) }, lent, buffer).answer;
     }
     after
 }
 
 fn plans_are_of_small_units(call: &Call, lent: u64, buffer: &[u8]) -> After {
-    let mut after = reading::after(call, lent, buffer);
+    let mut after = layout_call::after(call, lent, buffer);
     if matches!(call, Call::Plan { .. }) && after.answer == 0 {
         after.buffer[4] = 0;
     }
@@ -136,7 +138,8 @@ fn caught(wrong: Side) -> Option<(u64, String)> {
         let bytes = draw::near(&mut random);
         let (plan, room) = draw::plan(&mut random);
         let position = random.below(1 << 20);
-        let calls = [Call::Good { bytes: bytes.clone() }, Call::Set { bytes, position }, draw::offer(&mut random), plan];
+        let calls =
+            [Call::Good { bytes: bytes.clone() }, Call::Set { bytes, position }, draw::offer(&mut random), plan];
         let said = calls.iter().find_map(|call| on([desk::after, wrong], call, &vec![9; room]).err())?;
         Some((seed, said))
     })
@@ -163,5 +166,5 @@ fn wrong_readings_are_caught() {
         let Some((seed, said)) = caught(side) else { panic!("no call tells the reading `{name}` from the library") };
         println!("{name}: seed {seed}: {}", said.lines().next().unwrap_or(""));
     }
-    assert_eq!(caught(reading::after), None, "the right reading is told from the library");
+    assert_eq!(caught(layout_call::after), None, "the right reading is told from the library");
 }

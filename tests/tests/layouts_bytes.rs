@@ -1,12 +1,12 @@
 //! Which byte strings are layouts: example 10 with each byte changed, left out or put in, and a million strings near good ones.
 
-use station_tests::layouts::compare::{agree, Call};
+use reading::layout_call::Call;
+use station_tests::layouts::compare::agree;
 use station_tests::layouts::draw;
 use station_tests::random::Random;
 
-const EXAMPLE: [u8; 38] = [
-    1, 0, 0, 0, 0, 3, 1, 2, 3, 3, 2, 1, 2, 2, 2, 3, 2, 1, 3, 2, 0, 0, 0, 0, 0, 0, 0, 0, 2, 10, 0, 0, 0, 0, 0, 0, 0, 1,
-];
+const EXAMPLE: [u8; 38] =
+    [1, 0, 0, 0, 0, 3, 1, 2, 3, 3, 2, 1, 2, 2, 2, 3, 2, 1, 3, 2, 0, 0, 0, 0, 0, 0, 0, 0, 2, 10, 0, 0, 0, 0, 0, 0, 0, 1];
 
 const POSITIONS: [u64; 7] = [0, 9, 10, 11, (1 << 40) - 1, 1 << 40, u64::MAX];
 

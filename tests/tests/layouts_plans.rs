@@ -1,8 +1,8 @@
 //! The plan of a reorganise: good and bad drops, sets and edges, and buffers too short.
 
-use station_tests::layouts::bytes::print_sets;
-use station_tests::layouts::compare::{agree, Call};
-use station_tests::layouts::layout::BYTES;
+use reading::layout_bytes::{encode_sets, BYTES};
+use reading::layout_call::Call;
+use station_tests::layouts::compare::agree;
 use station_tests::layouts::{desk, draw};
 use station_tests::random::Random;
 
@@ -45,7 +45,7 @@ fn answer(drops: &[u8], sets: &[u8], edge: u64, room: usize) -> u8 {
 /// The order of the refusals, and what is named far behind the sixteenth set.
 #[test]
 fn corners_by_hand() {
-    let many = |last: u8| print_sets(&[vec![vec![3]; 254], vec![vec![last]]].concat());
+    let many = |last: u8| encode_sets(&[vec![vec![3]; 254], vec![vec![last]]].concat());
     assert_eq!(answer(&[2], &[], u64::MAX, BYTES), 0, "no new range: the edge changes nothing");
     assert_eq!(answer(&[], &[0], u64::MAX, BYTES), 0, "a count of none is no new range");
     assert_eq!(answer(&[], &[1, 1, 3], 1 << 40, BYTES), 9, "a new range would start at 2^40");

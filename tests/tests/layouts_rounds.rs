@@ -1,8 +1,9 @@
 //! Round trips: a good layout's bytes are read, planned with nothing to do and written, and come back with the next epoch only.
 
-use station_tests::layouts::bytes::{parse, print};
-use station_tests::layouts::compare::{agree, Call};
-use station_tests::layouts::layout::{BYTES, RANGES, SETS};
+use reading::layout::{RANGES, SETS};
+use reading::layout_bytes::{decode, encode, BYTES};
+use reading::layout_call::Call;
+use station_tests::layouts::compare::agree;
 use station_tests::layouts::{desk, draw};
 use station_tests::random::Random;
 
@@ -12,7 +13,7 @@ fn written_layouts_are_read_back() {
     for seed in 0..100_000 {
         let mut random = Random::new(seed);
         let mut layout = draw::layout(&mut random);
-        let bytes = print(&layout);
+        let bytes = encode(&layout);
         assert!(layout.good(), "seed {seed}: {layout:?} was to be good");
         assert_eq!(desk::good(&bytes), 0, "seed {seed}: {layout:?}");
         let call = Call::Plan { held: bytes.clone(), drops: Vec::new(), sets: Vec::new(), edge: random.next() };
@@ -23,8 +24,8 @@ fn written_layouts_are_read_back() {
         }
         layout.epoch += 1;
         let written = &after.buffer[..after.number as usize];
-        assert_eq!(parse(written).as_ref(), Some(&layout), "seed {seed}: bytes to value");
-        assert_eq!(written, print(&layout), "seed {seed}: value to bytes");
+        assert_eq!(decode(written).as_ref(), Some(&layout), "seed {seed}: bytes to value");
+        assert_eq!(written, encode(&layout), "seed {seed}: value to bytes");
         assert_eq!(desk::good(written), 0, "seed {seed}");
         assert!(after.buffer[written.len()..].iter().all(|byte| *byte == 0xEE), "seed {seed}: bytes behind the layout");
         if (layout.sets.len(), layout.ranges.len()) == (SETS, RANGES) {
@@ -38,7 +39,7 @@ fn written_layouts_are_read_back() {
 fn buffers_of_every_length() {
     for seed in 0..300 {
         let layout = draw::layout(&mut Random::new(seed));
-        let held = print(&layout);
+        let held = encode(&layout);
         for room in 0..=held.len() + 2 {
             let call = Call::Plan { held: held.clone(), drops: Vec::new(), sets: vec![0], edge: 0 };
             agree(&format!("seed {seed}, room for {room}"), &call, &vec![0x77; room]);

@@ -1,9 +1,9 @@
 //! Memories of every other length are refused with 1, and not a byte of them or of the outputs changes.
 
-use station_tests::call::Call;
+use reading::memory::{encode, SIZE};
+use reading::unit_call::{Call, Outputs};
 use station_tests::compare::agree;
-use station_tests::memory::{print, MEMORY};
-use station_tests::samples::{probes, units, UNTOUCHED};
+use station_tests::samples::{probes, units};
 
 const LENGTHS: [usize; 20] =
     [0, 1, 8, 16, 23, 24, 25, 71, 72, 119, 120, 6072, 6120, 6167, 6169, 6264, 2 * 6168, 65536, 65536 + 6168, 1 << 20];
@@ -18,15 +18,16 @@ fn cut(memory: &[u8], length: usize) -> Vec<u8> {
 #[test]
 fn other_lengths() {
     for (name, unit) in units() {
-        let memory = print(&unit);
+        let memory = encode(&unit);
         for length in LENGTHS {
-            assert_ne!(length, MEMORY);
+            assert_ne!(length, SIZE);
             let mut calls = probes(&unit);
             calls.extend([(0, 0), (1, 0), (8, 1), (9, 1), (9, 2)].map(|(number, shape)| Call::Fresh { number, shape }));
             calls.push(Call::Write { epoch: 0, position: u64::MAX, kind: 9, data: vec![1; 99] });
             for call in calls {
-                let after = agree(&format!("{name}, {length} bytes of it"), &cut(&memory, length), &call, UNTOUCHED);
-                assert_eq!((after.answer, after.outputs), (1, UNTOUCHED), "{call:?} on {length} bytes");
+                let after =
+                    agree(&format!("{name}, {length} bytes of it"), &cut(&memory, length), &call, Outputs::UNTOUCHED);
+                assert_eq!((after.answer, after.outputs), (1, Outputs::UNTOUCHED), "{call:?} on {length} bytes");
             }
         }
     }
@@ -35,9 +36,9 @@ fn other_lengths() {
 #[test]
 fn two_good_memories_in_a_row_are_none() {
     for (name, unit) in units() {
-        let twice = [print(&unit), print(&unit)].concat();
+        let twice = [encode(&unit), encode(&unit)].concat();
         for call in probes(&unit) {
-            assert_eq!(agree(&format!("{name}, twice"), &twice, &call, UNTOUCHED).answer, 1);
+            assert_eq!(agree(&format!("{name}, twice"), &twice, &call, Outputs::UNTOUCHED).answer, 1);
         }
     }
 }

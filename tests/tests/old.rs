@@ -1,14 +1,15 @@
 //! A memory from before there were two shapes: the library of that version made `old/unit-3.memory` by the calls below, and kept
 //! nothing in the three bytes behind the unit's number. It reads as a small unit, and the same calls still leave those bytes.
 
-use station_tests::call::{Call, Side};
+use reading::memory::{decode, encode, SIZE};
+use reading::shape::Shape;
+use reading::unit::{Cell, Page, Unit};
+use reading::unit_call::{Call, Outputs, Side};
 use station_tests::compare::{agree, SIDES};
-use station_tests::memory::{parse, print, MEMORY};
-use station_tests::samples::{probes, UNTOUCHED};
-use station_tests::unit::{Page, Shape, Unit};
+use station_tests::samples::probes;
 use std::collections::BTreeMap;
 
-const OLD: &[u8; MEMORY] = include_bytes!("../old/unit-3.memory");
+const OLD: &[u8; SIZE] = include_bytes!("../old/unit-3.memory");
 
 /// Bytes for the page at a position: of each length in turn, from none to a whole page.
 fn bytes(position: u64) -> Vec<u8> {
@@ -34,39 +35,39 @@ fn calls() -> Vec<Call> {
     calls
 }
 
-/// The unit that the paper says they leave.
+/// The unit that the rules say they leave.
 fn expected() -> Unit {
     let page = |position| match position {
-        12 | 13 => (position, Page::Trimmed),
-        _ if position % 7 == 6 => (position, Page::Junk),
-        _ => (position, Page::Data(bytes(position))),
+        12 | 13 => (position, Cell::Trimmed),
+        _ if position % 7 == 6 => (position, Cell::JUNK),
+        _ => (position, Cell::data(&bytes(position))),
     };
-    let mut slots: BTreeMap<u64, Page> = (10..130).map(page).collect();
-    slots.insert(1 << 33, Page::Trimmed);
-    Unit { shape: Shape::Small, number: 3, sealed: 1, floor: 10, slots }
+    let mut cells: BTreeMap<u64, Cell> = (10..130).map(page).collect();
+    cells.insert(1 << 33, Cell::Trimmed);
+    Unit { number: 3, shape: Shape::Small, sealed: 1, floor: 10, cells }
 }
 
 #[test]
 fn an_old_memory_is_a_small_unit() {
     assert_eq!(OLD[..4], [3, 0, 0, 0]);
-    assert_eq!(parse(OLD), Some(expected()));
-    assert_eq!(print(&expected()), OLD);
+    assert_eq!(decode(OLD), Some(expected()));
+    assert_eq!(encode(&expected()), OLD);
 }
 
 #[test]
 fn its_pages_are_read() {
-    for (position, page) in &expected().slots {
-        let seen = agree("the old memory", OLD, &Call::Read { epoch: 2, position: *position }, UNTOUCHED);
-        match page {
-            Page::Data(data) => {
+    for (position, cell) in &expected().cells {
+        let seen = agree("the old memory", OLD, &Call::Read { epoch: 2, position: *position }, Outputs::UNTOUCHED);
+        match cell {
+            Cell::Holds(Page::Data(data)) => {
                 assert_eq!((seen.answer, seen.outputs.kind), (0, 1), "read {position}");
                 let start = seen.outputs.start as usize;
                 assert_eq!(&OLD[start..start + seen.outputs.length as usize], data, "read {position}");
             }
-            Page::Junk => {
+            Cell::Holds(Page::Junk) => {
                 assert_eq!((seen.answer, seen.outputs.kind, seen.outputs.length), (0, 2, 0), "read {position}")
             }
-            Page::Trimmed => assert_eq!(seen.answer, 5, "read {position}"),
+            Cell::Trimmed => assert_eq!(seen.answer, 5, "read {position}"),
         }
     }
 }
@@ -74,19 +75,19 @@ fn its_pages_are_read() {
 #[test]
 fn it_goes_on_as_a_small_unit() {
     for call in probes(&expected()) {
-        agree("the old memory", OLD, &call, UNTOUCHED);
+        agree("the old memory", OLD, &call, Outputs::UNTOUCHED);
     }
     let long = |length| write(2, 1000, 1, vec![1; length]);
-    assert_eq!(agree("the old memory", OLD, &long(32), UNTOUCHED).answer, 0);
-    assert_eq!(agree("the old memory", OLD, &long(33), UNTOUCHED).answer, 3);
+    assert_eq!(agree("the old memory", OLD, &long(32), Outputs::UNTOUCHED).answer, 0);
+    assert_eq!(agree("the old memory", OLD, &long(33), Outputs::UNTOUCHED).answer, 3);
 }
 
 #[test]
 fn the_same_calls_leave_the_same_bytes() {
     let made = |side: Side| {
-        let fresh = side(&[0x5A; MEMORY], &Call::Fresh { number: 3, shape: 0 }, UNTOUCHED).memory;
+        let fresh = side(&[0x5A; SIZE], &Call::Fresh { number: 3, shape: 0 }, Outputs::UNTOUCHED).memory;
         calls().iter().fold(fresh, |memory, call| {
-            let after = side(&memory, call, UNTOUCHED);
+            let after = side(&memory, call, Outputs::UNTOUCHED);
             assert_eq!(after.answer, 0, "{call:?}");
             after.memory
         })

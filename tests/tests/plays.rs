@@ -1,10 +1,8 @@
 //! The play book by the proved library and by the reading of the yard: the plays of plays/, drawn ones, and every part of their lines.
 
+use reading::draw_play::draw_play;
+use reading::stored;
 use station_tests::plays::{agree, plays, shown};
-use std::fs;
-use std::path::Path;
-use yard_reading::draw_play::draw_play;
-use yard_reading::run::seeds;
 
 /// Room for the lines of every play.
 const ROOM: usize = 1 << 20;
@@ -38,10 +36,8 @@ fn from_every_step_on_and_in_every_buffer() {
 
 #[test]
 fn drawn_plays() {
-    let text =
-        fs::read_to_string(Path::new(env!("CARGO_MANIFEST_DIR")).join("../reading/seeds.txt")).expect("the seeds");
     let mut compared = 0;
-    for (seed, steps) in seeds(&text).expect("seeds and numbers of steps") {
+    for (seed, steps) in stored::runs() {
         let file = draw_play(seed, steps).write().expect("it fits");
         let after = agree(&format!("seed {seed}"), &file, 1, ROOM);
         compared += if after.answer == 0 { after.lines } else { 0 };

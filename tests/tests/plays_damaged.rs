@@ -1,9 +1,9 @@
 //! Damaged plays and random files, by the proved library and by the reading of the yard: 22 exactly where the reading says so, the same lines otherwise.
 
+use reading::damage::{changed, cut, lengthened, nearly_play, play_of, RandomBytes};
+use reading::lehmer::Lehmer;
+use reading::play;
 use station_tests::plays::{agree, plays, shown};
-use yard_reading::damage::{changed, cut, lengthened, nearly_play, play_of, RandomBytes};
-use yard_reading::lehmer::Lehmer;
-use yard_reading::play;
 
 /// Room for the lines of every play of plays/.
 const ROOM: usize = 1 << 15;

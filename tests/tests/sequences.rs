@@ -1,6 +1,6 @@
 //! Random calls in long sequences: answers, outputs and every byte of memory, after each call.
 
-use station_tests::reading;
+use reading::unit_call;
 use station_tests::run::{sequence, Tally};
 use station_tests::weather::WEATHERS;
 
@@ -23,7 +23,7 @@ fn random_calls_agree() {
     for (number, weather) in WEATHERS.iter().enumerate() {
         for seed in 0..SEEDS {
             let seed = 1000 * (number as u64 + 1) + seed;
-            if let Err(said) = sequence(reading::after, weather, seed, STEPS, &mut tally) {
+            if let Err(said) = sequence(unit_call::after, weather, seed, STEPS, &mut tally) {
                 panic!("library and reading differ: {said}");
             }
         }

@@ -1,17 +1,16 @@
 //! Every entry on a painted stack of 2,048 bytes, as a relay has it: good and bad memories of both shapes, empty, half full and full, and every answer that the entry can give. It gives
 //! what it gives on any other stack, the paint beyond stays, and no entry goes deeper than tools/stack counted.
 
-use station_tests::call::Call;
-use station_tests::memory::{parse, print, slot, HEADER, MEMORY};
-use station_tests::reading;
-use station_tests::samples::{probes, units, UNTOUCHED};
+use reading::memory::{decode, encode, HEADER, SIZE};
+use reading::no::LIMIT;
+use reading::stored;
+use reading::unit::Unit;
+use reading::unit_call::{self, Call, Outputs};
+use station_tests::samples::{probes, units};
 use station_tests::stack::{after, on_small_stack, PAINTS, PASSED, STACK};
-use station_tests::unit::{Unit, POSITIONS};
 use std::collections::{BTreeMap, BTreeSet};
-use std::fs;
 use std::hint::black_box;
 use std::mem::MaybeUninit;
-use std::path::Path;
 
 /// All answers of each entry, as include/station.h lists them.
 const ANSWERS: [(&str, &[u8]); 6] = [
@@ -25,8 +24,7 @@ const ANSWERS: [(&str, &[u8]); 6] = [
 
 /// What tools/stack counted for an entry on this machine, as docs/SPEED.md has it.
 fn counted(entry: &str) -> usize {
-    let page = Path::new(env!("CARGO_MANIFEST_DIR")).join("../docs/SPEED.md");
-    let page = fs::read_to_string(page).unwrap();
+    let page = stored::text("docs/SPEED.md");
     let row = page.lines().find(|line| line.starts_with(&format!("| `unit_{entry}` |"))).expect("a row of this entry");
     let column = if cfg!(target_arch = "x86_64") { 2 } else { 4 };
     row.split('|').nth(column).unwrap().trim().parse().unwrap()
@@ -34,7 +32,7 @@ fn counted(entry: &str) -> usize {
 
 /// Memories that are not good, made from a good one: found out at once, at the first slot, at the last, behind them.
 fn bad_memories(unit: &Unit) -> Vec<(&'static str, Vec<u8>)> {
-    let good = print(unit);
+    let good = encode(unit);
     let cut = |length| good[..length].to_vec();
     let edited = |at: usize, byte| {
         let mut memory = good.clone();
@@ -44,21 +42,21 @@ fn bad_memories(unit: &Unit) -> Vec<(&'static str, Vec<u8>)> {
     let mut bad = vec![
         ("no byte of it", cut(0)),
         ("its header alone", cut(HEADER)),
-        ("all but its last byte", cut(MEMORY - 1)),
-        ("a byte more", [cut(MEMORY), vec![0]].concat()),
+        ("all but its last byte", cut(SIZE - 1)),
+        ("a byte more", [cut(SIZE), vec![0]].concat()),
         ("no unit's number", edited(0, 0)),
         ("no shape", edited(1, 2)),
         ("a byte of the header's six", edited(HEADER - 1, 1)),
-        ("another count", edited(16, unit.slots.len() as u8 ^ 1)),
+        ("another count", edited(16, unit.cells.len() as u8 ^ 1)),
         ("a first slot of no kind", edited(HEADER + 8, 9)),
     ];
-    if let Some(last) = unit.slots.len().checked_sub(1) {
-        bad.push(("a last slot of no kind", edited(HEADER + last * slot(unit.shape) + 8, 9)));
+    if let Some(last) = unit.cells.len().checked_sub(1) {
+        bad.push(("a last slot of no kind", edited(HEADER + last * unit.shape.slot() + 8, 9)));
     }
-    if unit.slots.len() < unit.shape.slots() {
-        bad.push(("a last byte that is not zero", edited(MEMORY - 1, 1)));
+    if unit.cells.len() < unit.shape.slots() {
+        bad.push(("a last byte that is not zero", edited(SIZE - 1, 1)));
     }
-    assert!(bad.iter().all(|(_, memory)| parse(memory).is_none()));
+    assert!(bad.iter().all(|(_, memory)| decode(memory).is_none()));
     bad
 }
 
@@ -70,11 +68,11 @@ fn fresh_calls() -> Vec<Call> {
 
 /// Calls that a unit like this takes and refuses, for every reason that it has.
 fn calls(unit: &Unit) -> Vec<Call> {
-    let slot = |index: usize| unit.slots.keys().nth(index).copied().unwrap_or(unit.floor);
-    let (middle, last) = (slot(unit.slots.len() / 2), slot(unit.slots.len().saturating_sub(1)));
+    let slot = |index: usize| unit.cells.keys().nth(index).copied().unwrap_or(unit.floor);
+    let (middle, last) = (slot(unit.cells.len() / 2), slot(unit.cells.len().saturating_sub(1)));
     let positions = BTreeSet::from([0, unit.floor, slot(0), slot(1), slot(2), middle, last, unit.edge()]);
     let around = positions.iter().flat_map(|p| [p.saturating_sub(1), *p, p + 1]);
-    let positions: BTreeSet<u64> = around.chain([POSITIONS - 1, POSITIONS, POSITIONS + 1, u64::MAX]).collect();
+    let positions: BTreeSet<u64> = around.chain([LIMIT - 1, LIMIT, LIMIT + 1, u64::MAX]).collect();
     let epochs = BTreeSet::from([0, unit.sealed, unit.sealed.saturating_add(1), u32::MAX]);
     let mut calls = fresh_calls();
     for epoch in epochs {
@@ -103,9 +101,9 @@ struct Seen {
 impl Seen {
     /// Makes a call on the small stack, in each colour, and panics where it goes beyond or gives anything else than on another stack.
     fn call(&mut self, context: &str, memory: &[u8], call: &Call) {
-        let expected = reading::after(memory, call, UNTOUCHED);
+        let expected = unit_call::after(memory, call, Outputs::UNTOUCHED);
         for paint in PAINTS {
-            let (seen, depth) = after(paint, memory, call, UNTOUCHED);
+            let (seen, depth) = after(paint, memory, call, Outputs::UNTOUCHED);
             assert!(depth <= STACK, "{call:?} on {context}: {depth} bytes deep, and there are {STACK}");
             assert!(seen == expected, "{call:?} on {context}: not what it gives elsewhere");
             let deepest = self.deepest.entry(call.name()).or_default();
@@ -120,7 +118,7 @@ fn every_entry_on_a_relays_stack() {
     let mut seen = Seen::default();
     for (name, unit) in units() {
         for call in calls(&unit) {
-            seen.call(&name, &print(&unit), &call);
+            seen.call(&name, &encode(&unit), &call);
         }
         for (flaw, memory) in bad_memories(&unit) {
             for call in probes(&unit).into_iter().chain(fresh_calls()) {

@@ -1,2 +1,6 @@
 pub mod Pages
 pub mod Answers
+pub mod Cases
+pub mod Clients
+pub mod Turns
+pub mod Unique

@@ -1,4 +1,4 @@
--- An operation begins, is given up, or is forgotten with the client's life.
+-- An operation begins, is given up, or is forgotten with the client's life (docs/RULES.md, 9.2).
 use Prim.Native.Nat.{ℕ, _+_}
 use mathlib.Core.Bool.{cond}
 use mathlib.Core.List.{List, [], _∷_, _++_}
@@ -21,15 +21,15 @@ use Rattle.client.specs.Job.{jobChecks, positionFor, pageFor, changeFor}
 abbrev pub readyChecks : Client → List Check
 readyChecks c = 18 if busy (c .stage) ∷ 19 if leb lastNumber (c .used .0) ∷ []
 
-unfoldable pub readyAnswer : Client → ℕ
+abbrev pub readyAnswer : Client → ℕ
 readyAnswer c = lowest (readyChecks c)
 
 -- position and page come after them (the yard has its own 16 between)
-unfoldable pub beginAnswer : Client → Job → ℕ → ℕ
+abbrev pub beginAnswer : Client → Job → ℕ → ℕ
 beginAnswer c j shape = lowest (readyChecks c ++ jobChecks j shape)
 
 -- the client with the operation
-unfoldable pub withJob : Client → Job → Client
+abbrev pub withJob : Client → Job → Client
 withJob c j = record {
   life = c .life;
   used = c .used;
@@ -56,7 +56,7 @@ unfoldable pub giveUp : Client → Turn
 giveUp c = cond (busy (c .stage)) (ends c 20) (rests c)
 
 -- 19: life 65,535
-unfoldable pub restartAnswer : Client → ℕ
+abbrev pub restartAnswer : Client → ℕ
 restartAnswer c = lowest (19 if leb lastLife (c .life) ∷ [])
 
 -- "its operation forgotten, life plus 1, numbers unused again"

@@ -1,4 +1,4 @@
--- A client between two steps.
+-- A client between two steps (docs/RULES.md, 8).
 use Prim.Native.Nat.{ℕ, _-_, _^_}
 use mathlib.Core.Bool.{Bool, true, false}
 use mathlib.Core.List.{List}
@@ -13,8 +13,9 @@ use Rattle.client.specs.declared.Work.{Work}
 use Rattle.client.specs.declared.Work.the-variants.{Append, Read, Fill, Trim, Prune, Reorganise}
 use Rattle.client.specs.declared.Change.{Change}
 use Rattle.client.specs.declared.state.Job.{Job}
+use Rattle.client.specs.declared.Phase.{Phase}
 use Rattle.client.specs.declared.Stage.{Stage}
-use Rattle.client.specs.declared.Stage.the-variants.{Idle, Fetching, Drawing, Writing, Reading, Filling, Looking, Trimming, Pruning, Sealing, Offering, Starting}
+use Rattle.client.specs.declared.Stage.the-variants.{Idle, Fetching, Working}
 use Rattle.client.specs.declared.Client.{Client}
 use Rattle.client.specs.Message.{pageLimit, noPage}
 
@@ -74,25 +75,16 @@ fresh = idle 1 (record { 0 = 0 })
 abbrev pub busy : Stage → Bool
 busy Idle = false
 busy Fetching = true
-busy (Drawing n) = true
-busy (Writing u n) = true
-busy (Reading u) = true
-busy (Filling u) = true
-busy (Looking u) = true
-busy (Trimming u) = true
-busy (Pruning u) = true
-busy (Sealing u e) = true
-busy (Offering e) = true
-busy Starting = true
+busy (Working p) = true
 
 -- ---- one thing changed
 
-unfoldable pub inStage : Client → Stage → Client
-inStage c s = record {
+abbrev pub inPhase : Client → Phase → Client
+inPhase c p = record {
   life = c .life;
   used = c .used;
   begun = c .begun;
-  stage = s;
+  stage = Working p;
   work = c .work;
   change = c .change;
   position = c .position;
@@ -101,7 +93,7 @@ inStage c s = record {
   plan = c .plan;
 }
 
-unfoldable pub atPosition : Client → Position → Client
+abbrev pub atPosition : Client → Position → Client
 atPosition c p = record {
   life = c .life;
   used = c .used;
@@ -115,7 +107,7 @@ atPosition c p = record {
   plan = c .plan;
 }
 
-unfoldable pub carrying : Client → Page → Client
+abbrev pub carrying : Client → Page → Client
 carrying c g = record {
   life = c .life;
   used = c .used;
@@ -129,7 +121,7 @@ carrying c g = record {
   plan = c .plan;
 }
 
-unfoldable pub holding : Client → Layout → Client
+abbrev pub holding : Client → Layout → Client
 holding c l = record {
   life = c .life;
   used = c .used;
@@ -143,7 +135,7 @@ holding c l = record {
   plan = c .plan;
 }
 
-unfoldable pub planning : Client → Layout → Client
+abbrev pub planning : Client → Layout → Client
 planning c l = record {
   life = c .life;
   used = c .used;

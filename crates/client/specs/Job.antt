@@ -1,4 +1,4 @@
--- What an operation asks for, as it is when it begins.
+-- What an operation asks for, as it is when it begins (docs/RULES.md, 9.2).
 use Prim.Native.Nat.{ℕ}
 use mathlib.Core.Bool.{Bool, false}
 use mathlib.Core.List.{List, [], _∷_}
@@ -38,7 +38,7 @@ tooLong Reorganise len shape = false
 abbrev pub jobChecks : Job → ℕ → List Check
 jobChecks j shape = 2 if past (j .work) ∷ 3 if tooLong (j .work) (j .len) shape ∷ []
 
-unfoldable pub jobAnswer : Job → ℕ → ℕ
+abbrev pub jobAnswer : Job → ℕ → ℕ
 jobAnswer j shape = lowest (jobChecks j shape)
 
 -- ---- what the client then keeps of it
@@ -52,7 +52,7 @@ positionFor (Prune p) = p
 positionFor Reorganise = record { 0 = 0 }
 
 -- data of a length, blank past it
-unfoldable pub dataPage : ℕ → List ℕ → Page
+abbrev pub dataPage : ℕ → List ℕ → Page
 dataPage len bytes = record { kind = 1; len = len; bytes = padded pageLimit 0 (take len bytes) }
 
 -- an append carries its data, a fill junk

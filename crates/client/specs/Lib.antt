@@ -10,4 +10,3 @@ pub mod Fill
 pub mod Trim
 pub mod Reorganise
 pub mod Take
-pub mod Unique

@@ -1,4 +1,4 @@
--- What a client sends and what is handed back to it.
+-- What a client sends and what is handed back to it (docs/RULES.md, 8.1).
 use Prim.Native.Nat.{ℕ}
 use mathlib.Core.Bool.{cond}
 use lib.Dec.{eqb}
@@ -52,7 +52,7 @@ noQuery = plain Fetch
 abbrev pub noResponse : Response
 noResponse = record { reply = Refused 0; page = noPage; layout = blank }
 
--- the paper's number of each, 0 where it is no refusal
+-- the number of each (docs/RULES.md, 10), 0 where it is no refusal
 abbrev pub numberOf : Reply → ℕ
 numberOf Held = 0
 numberOf (Given p) = 0

@@ -1,26 +1,27 @@
--- Reorganise: seal every unit of the new layout with the held epoch, in rising number; offer the layout; start the sequencer.
+-- Reorganise: seal every unit of the new layout with the held epoch, in rising number; offer the layout; start the sequencer (docs/RULES.md, 8.3).
 use Prim.Native.Nat.{ℕ}
 use mathlib.Core.Bool.{cond}
 use lib.Dec.{eqb, ltb, leb}
 use Rattle.num.specs.Limits.{limit}
 use Rattle.num.specs.declared.Position.{Position}
-use Rattle.client.specs.declared.Ask.the-variants.{Seal, Start}
+use Rattle.client.specs.declared.UnitAsk.the-variants.{Seal}
+use Rattle.client.specs.declared.Ask.the-variants.{Unit, Start}
 use Rattle.client.specs.declared.Reply.{Reply}
-use Rattle.client.specs.declared.Stage.the-variants.{Sealing, Offering, Starting}
+use Rattle.client.specs.declared.Phase.the-variants.{Sealing, Offering, Starting}
 use Rattle.client.specs.declared.Client.{Client}
 use Rattle.client.specs.declared.turn.Turn.{Turn}
 use Rattle.client.specs.Message.{numberOf, plain, offering, ifFine, ifEdge}
-use Rattle.client.specs.Client.{inStage, planning}
+use Rattle.client.specs.Client.{inPhase, planning}
 use Rattle.client.specs.Turn.{rests, ends, sends, otherwise}
 use Rattle.client.specs.Way.{unitAbove, planFor, startFor}
 
 -- seals u with the held epoch, e being the largest edge so far
-unfoldable pub seals : Client → ℕ → Position → Turn
-seals c u e = sends (inStage c (Sealing u e)) (plain (Seal u (c .layout .epoch)))
+abbrev pub seals : Client → ℕ → Position → Turn
+seals c u e = sends (inPhase c (Sealing u e)) (plain (Unit u (Seal (c .layout .epoch))))
 
 -- offers the layout; p is where the sequencer is to start
-unfoldable pub offers : Client → Position → Turn
-offers c p = sends (inStage c (Offering p)) (offering (c .plan))
+abbrev pub offers : Client → Position → Turn
+offers c p = sends (inPhase c (Offering p)) (offering (c .plan))
 
 -- the new range, if any, starts at the largest of all edges and the last start plus 1: 9 where that would be 2^40
 unfoldable pub allSealed : Client → Position → Turn
@@ -38,22 +39,22 @@ unfoldable pub larger : Position → Position → Position
 larger a b = cond (leb (a .0) (b .0)) b a
 
 -- an edge that no unit tells never answers
-unfoldable pub sealedAt : Client → ℕ → Position → Position → Turn
-sealedAt c u e x = cond (leb (x .0) limit) (sealsOn c u (larger e x)) (rests c)
+unfoldable pub edgeTaken : Client → ℕ → Position → Position → Turn
+edgeTaken c u e x = cond (leb (x .0) limit) (sealsOn c u (larger e x)) (rests c)
 
-unfoldable pub onSealed : Client → ℕ → Position → Reply → Turn
-onSealed c u e a = ifEdge a (λ x. sealedAt c u e x) (otherwise c (numberOf a))
+abbrev pub onSealed : Client → ℕ → Position → Reply → Turn
+onSealed c u e a = ifEdge a (λ x. edgeTaken c u e x) (otherwise c (numberOf a))
 
 -- then start the sequencer at the new epoch
-unfoldable pub starts : Client → Position → Turn
-starts c p = sends (inStage c Starting) (plain (Start (c .plan .epoch) p))
+abbrev pub starts : Client → Position → Turn
+starts c p = sends (inPhase c Starting) (plain (Start (c .plan .epoch) p))
 
-unfoldable pub onOffered : Client → Position → Reply → Turn
+abbrev pub onOffered : Client → Position → Reply → Turn
 onOffered c p a = ifFine a (starts c p) (otherwise c (numberOf a))
 
 -- "Sequencer says 4: outcome 11"
 unfoldable pub notStarted : Client → ℕ → Turn
 notStarted c k = cond (eqb k 4) (ends c 11) (otherwise c k)
 
-unfoldable pub onStarted : Client → Reply → Turn
+abbrev pub onStarted : Client → Reply → Turn
 onStarted c a = ifFine a (ends c 0) (notStarted c (numberOf a))

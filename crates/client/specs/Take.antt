@@ -1,16 +1,19 @@
--- An answer comes to a client: what it does next.
+-- An answer comes to a client: what it does next (docs/RULES.md, 8.1).
 use Prim.Native.Nat.{ℕ}
 use mathlib.Core.Bool.{Bool, cond, _&&_}
 use lib.Dec.{eqb}
 use Rattle.layout.specs.declared.Layout.{Layout}
 use Rattle.layout.specs.Value.{goodValue}
+use Rattle.client.specs.declared.Page.{Page}
 use Rattle.client.specs.declared.Reply.{Reply}
 use Rattle.client.specs.declared.Response.{Response}
 use Rattle.client.specs.declared.Stamp.{Stamp}
 use Rattle.client.specs.declared.Work.{Work}
 use Rattle.client.specs.declared.Work.the-variants.{Append, Read, Fill, Trim, Prune, Reorganise}
+use Rattle.client.specs.declared.Phase.{Phase}
+use Rattle.client.specs.declared.Phase.the-variants.{Drawing, Writing, Reading, Filling, Looking, Trimming, Pruning, Sealing, Offering, Starting}
 use Rattle.client.specs.declared.Stage.{Stage}
-use Rattle.client.specs.declared.Stage.the-variants.{Idle, Fetching, Drawing, Writing, Reading, Filling, Looking, Trimming, Pruning, Sealing, Offering, Starting}
+use Rattle.client.specs.declared.Stage.the-variants.{Idle, Fetching, Working}
 use Rattle.client.specs.declared.Client.{Client}
 use Rattle.client.specs.declared.turn.Turn.{Turn}
 use Rattle.client.specs.Message.{numberOf, ifHeld}
@@ -26,7 +29,7 @@ use Rattle.client.specs.Reorganise.{reorganises, onSealed, onOffered, on
 -- ---- the layout is fetched
 
 -- the first request after it
-unfoldable pub goesOn : Work → Client → Turn
+abbrev pub goesOn : Work → Client → Turn
 goesOn Append c = draws c 1
 goesOn (Read p) c = reads c (tailFor c)
 goesOn (Fill p) c = fills c (headFor c)
@@ -38,24 +41,27 @@ goesOn Reorganise c = reorganises c
 unfoldable pub holds : Client → Layout → Turn
 holds c l = cond (goodValue l) (goesOn (c .work) (holding c l)) (ends c 10)
 
-unfoldable pub onFetched : Client → Reply → Layout → Turn
+abbrev pub onFetched : Client → Reply → Layout → Turn
 onFetched c a l = ifHeld a (holds c l) (otherwise c (numberOf a))
 
 -- ---- the answer to the outstanding request
 
-unfoldable pub answered : Stage → Client → Response → Turn
+abbrev pub worked : Phase → Client → Reply → Page → Turn
+worked (Drawing n) c a g = onToken c n a
+worked (Writing u n) c a g = onWritten c u n a
+worked (Reading u) c a g = onRead c a g
+worked (Filling u) c a g = onFilled c u a
+worked (Looking u) c a g = onLooked c u a g
+worked (Trimming u) c a g = onTrimmed c u a
+worked (Pruning u) c a g = onPruned c u a
+worked (Sealing u e) c a g = onSealed c u e a
+worked (Offering p) c a g = onOffered c p a
+worked Starting c a g = onStarted c a
+
+abbrev pub answered : Stage → Client → Response → Turn
 answered Idle c r = rests c
 answered Fetching c r = onFetched c (r .reply) (r .layout)
-answered (Drawing n) c r = onToken c n (r .reply)
-answered (Writing u n) c r = onWritten c u n (r .reply)
-answered (Reading u) c r = onRead c (r .reply) (r .page)
-answered (Filling u) c r = onFilled c u (r .reply)
-answered (Looking u) c r = onLooked c u (r .reply) (r .page)
-answered (Trimming u) c r = onTrimmed c u (r .reply)
-answered (Pruning u) c r = onPruned c u (r .reply)
-answered (Sealing u e) c r = onSealed c u e (r .reply)
-answered (Offering p) c r = onOffered c p (r .reply)
-answered Starting c r = onStarted c (r .reply)
+answered (Working p) c r = worked p c (r .reply) (r .page)
 
 -- "A request bears client, life and number; an answer to anything else is ignored"
 unfoldable pub awaited : ℕ → Client → Stamp → Bool

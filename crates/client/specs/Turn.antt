@@ -1,4 +1,4 @@
--- What comes of a step at a client: it rests, a request is sent, or its operation ends.
+-- What comes of a step at a client: it rests, a request is sent, or its operation ends (docs/RULES.md, 8.2).
 use Prim.Native.Nat.{ℕ, _+_}
 use mathlib.Core.Bool.{cond}
 use lib.Dec.{eqb, leb}
@@ -16,23 +16,23 @@ abbrev pub noOutcome : Outcome
 noOutcome = record { number = 0; position = record { 0 = 0 }; epoch = record { 0 = 0 }; page = noPage }
 
 -- the position under way, the epoch of the layout fetched (0 before), and a page
-unfoldable pub outcomeOf : Client → ℕ → Page → Outcome
+abbrev pub outcomeOf : Client → ℕ → Page → Outcome
 outcomeOf c n g = record { number = n; position = c .position; epoch = c .layout .epoch; page = g }
 
 -- nothing happens
-unfoldable pub rests : Client → Turn
+abbrev pub rests : Client → Turn
 rests c = record { client = c; act = Rests; query = noQuery; outcome = noOutcome }
 
 -- the operation is over, with a number and a page
-unfoldable pub over : Client → ℕ → Page → Turn
+abbrev pub over : Client → ℕ → Page → Turn
 over c n g = record { client = idle (c .life) (c .used); act = Ends; query = noQuery; outcome = outcomeOf c n g }
 
 -- with a number alone
-unfoldable pub ends : Client → ℕ → Turn
+abbrev pub ends : Client → ℕ → Turn
 ends c n = over c n noPage
 
 -- its numbers used up to this one
-unfoldable pub numbered : Client → Request → Client
+abbrev pub numbered : Client → Request → Client
 numbered c n = record {
   life = c .life;
   used = n;

@@ -16,18 +16,18 @@ use Rattle.client.specs.declared.Client.{Client}
 abbrev pub unitsFor : Client → List ℕ
 unitsFor c = unitsAt (c .layout) (c .position .0)
 
-unfoldable pub headFor : Client → ℕ
+abbrev pub headFor : Client → ℕ
 headFor c = headOf (unitsFor c)
 
-unfoldable pub tailFor : Client → ℕ
+abbrev pub tailFor : Client → ℕ
 tailFor c = tailOf (unitsFor c)
 
 -- the unit after u in it; 0 after the tail
-unfoldable pub afterFor : Client → ℕ → ℕ
+abbrev pub afterFor : Client → ℕ → ℕ
 afterFor c u = after u (unitsFor c)
 
 -- the next unit of a layout, in rising number; 0 after the last
-unfoldable pub unitAbove : Layout → ℕ → ℕ
+abbrev pub unitAbove : Layout → ℕ → ℕ
 unitAbove l u = nextUnit (layOf l) u
 
 -- ---- of a reorganise
@@ -37,9 +37,9 @@ abbrev pub dropsOf : Change → List ℕ
 dropsOf h = take (h .count) (h .drops)
 
 -- 15, 10, 13 or 14; or 0 and the new layout, but for its new range's start
-unfoldable pub planFor : Client → Planned
+abbrev pub planFor : Client → Planned
 planFor c = plannedFor (c .layout) (dropsOf (c .change)) (c .change .wish)
 
 -- 9; or 0, the new layout whole, and where the sequencer is started. e is the largest edge
-unfoldable pub startFor : Client → Position → Started
+abbrev pub startFor : Client → Position → Started
 startFor c e = startedAt (c .plan) (e .0)

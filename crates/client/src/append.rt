@@ -3,9 +3,10 @@ ghost use mathlib.Core.Path.{_≡_};
 ghost use Rattle.client.specs.Append.{draws, writes, writesAt, onToken, writesOn, notAtHead, notLater, notWritten, onWritten};
 use crate::Ask;
 use crate::Client;
+use crate::Phase;
 use crate::Query;
 use crate::Reply;
-use crate::Stage;
+use crate::UnitAsk;
 use crate::message::number_of;
 use crate::turn::Turn;
 use crate::turn::ends;
@@ -24,7 +25,7 @@ pub(crate) fn draws(c: Client, n: u8) -> Turn
     let held = c.layout;
     let epoch = held.epoch;
     sends(
-        c.in_stage(Stage::Drawing(n)),
+        c.in_phase(Phase::Drawing(n)),
         Query::plain(Ask::Token(epoch)),
     )
 }
@@ -38,8 +39,8 @@ pub(crate) fn writes(c: Client, unit: u8, n: u8) -> Turn
     let position = c.position;
     let page = c.page;
     sends(
-        c.in_stage(Stage::Writing(unit, n)),
-        Query::bearing(Ask::Write(unit, epoch, position), page),
+        c.in_phase(Phase::Writing(unit, n)),
+        Query::bearing(Ask::Unit(unit, UnitAsk::Write(epoch, position)), page),
     )
 }
 

@@ -4,9 +4,10 @@ ghost use Rattle.client.specs.Fill.{fills, looks, fillsOn, notFilled, on
 use crate::Ask;
 use crate::Client;
 use crate::Page;
+use crate::Phase;
 use crate::Query;
 use crate::Reply;
-use crate::Stage;
+use crate::UnitAsk;
 use crate::message::number_of;
 use crate::turn::Turn;
 use crate::turn::ends;
@@ -25,8 +26,8 @@ pub(crate) fn fills(c: Client, unit: u8) -> Turn
     let position = c.position;
     let page = c.page;
     sends(
-        c.in_stage(Stage::Filling(unit)),
-        Query::bearing(Ask::Write(unit, epoch, position), page),
+        c.in_phase(Phase::Filling(unit)),
+        Query::bearing(Ask::Unit(unit, UnitAsk::Write(epoch, position)), page),
     )
 }
 
@@ -38,8 +39,8 @@ pub(crate) fn looks(c: Client, unit: u8) -> Turn
     let epoch = held.epoch;
     let position = c.position;
     sends(
-        c.in_stage(Stage::Looking(unit)),
-        Query::plain(Ask::Read(unit, epoch, position)),
+        c.in_phase(Phase::Looking(unit)),
+        Query::plain(Ask::Unit(unit, UnitAsk::Read(epoch, position))),
     )
 }
 

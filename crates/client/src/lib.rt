@@ -18,15 +18,20 @@ pub mod trim;
 pub mod turn;
 pub mod way;
 
-// What is asked, and of which unit (the first number of those that go to one).
+// What a unit is asked.
+pub enum UnitAsk {
+    Write(Epoch, Position),
+    Read(Epoch, Position),
+    Trim(Epoch, Position),
+    Prune(Epoch, Position),
+    Seal(Epoch),
+}
+
+// What is asked: of the holder, of the sequencer, or of a unit by its number.
 pub enum Ask {
     Fetch,
     Token(Epoch),
-    Write(u8, Epoch, Position),
-    Read(u8, Epoch, Position),
-    Trim(u8, Epoch, Position),
-    Prune(u8, Epoch, Position),
-    Seal(u8, Epoch),
+    Unit(u8, UnitAsk),
     Offer,
     Start(Epoch, Position),
 }
@@ -86,11 +91,9 @@ pub struct Change {
     pub wish: Wish,
 }
 
-// What the outstanding request is, with the unit it went to, the tokens taken so far, the largest edge so far,
-// and where the sequencer is to start.
-pub enum Stage {
-    Idle,
-    Fetching,
+// What the outstanding request is once the layout is fetched, with the unit it went to, the tokens taken so far,
+// the largest edge so far, and where the sequencer is to start.
+pub enum Phase {
     Drawing(u8),
     Writing(u8, u8),
     Reading(u8),
@@ -101,6 +104,13 @@ pub enum Stage {
     Sealing(u8, Position),
     Offering(Position),
     Starting,
+}
+
+// No operation; its layout is being fetched; or it has one, and works under it.
+pub enum Stage {
+    Idle,
+    Fetching,
+    Working(Phase),
 }
 
 // `used`: how many request numbers of this life are used, which is the last one; `begun`: how many were when the operation began.

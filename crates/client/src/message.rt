@@ -101,7 +101,7 @@ impl Response {
     }
 }
 
-// The paper's number of an answer: 0 for each that is no refusal.
+// The number of an answer (docs/RULES.md, 10): 0 for each that is no refusal.
 pub fn number_of(reply: Reply) -> u8
     ensures { λ r. ⌜ r ≡ numberOf reply ⌝ }
 {

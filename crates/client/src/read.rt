@@ -4,9 +4,10 @@ ghost use Rattle.client.specs.Read.{reads, onRead};
 use crate::Ask;
 use crate::Client;
 use crate::Page;
+use crate::Phase;
 use crate::Query;
 use crate::Reply;
-use crate::Stage;
+use crate::UnitAsk;
 use crate::message::number_of;
 use crate::turn::Turn;
 use crate::turn::otherwise;
@@ -22,8 +23,8 @@ pub(crate) fn reads(c: Client, unit: u8) -> Turn
     let epoch = held.epoch;
     let position = c.position;
     sends(
-        c.in_stage(Stage::Reading(unit)),
-        Query::plain(Ask::Read(unit, epoch, position)),
+        c.in_phase(Phase::Reading(unit)),
+        Query::plain(Ask::Unit(unit, UnitAsk::Read(epoch, position))),
     )
 }
 

@@ -1,11 +1,12 @@
 // Reorganise: seal every unit of the new layout with the held epoch, in rising number; offer the layout; start the sequencer.
 ghost use mathlib.Core.Path.{_≡_};
-ghost use Rattle.client.specs.Reorganise.{seals, offers, allSealed, sealsOn, reorganises, larger, sealedAt, onSealed, starts, onOffered, notStarted, onStarted};
+ghost use Rattle.client.specs.Reorganise.{seals, offers, allSealed, sealsOn, reorganises, larger, edgeTaken, onSealed, starts, onOffered, notStarted, onStarted};
 use crate::Ask;
 use crate::Client;
+use crate::Phase;
 use crate::Query;
 use crate::Reply;
-use crate::Stage;
+use crate::UnitAsk;
 use crate::message::number_of;
 use crate::turn::Turn;
 use crate::turn::ends;
@@ -25,8 +26,8 @@ pub(crate) fn seals(c: Client, unit: u8, edge: Position) -> Turn
     let held = c.layout;
     let epoch = held.epoch;
     sends(
-        c.in_stage(Stage::Sealing(unit, edge)),
-        Query::plain(Ask::Seal(unit, epoch)),
+        c.in_phase(Phase::Sealing(unit, edge)),
+        Query::plain(Ask::Unit(unit, UnitAsk::Seal(epoch))),
     )
 }
 
@@ -35,7 +36,7 @@ pub(crate) fn offers(c: Client, start: Position) -> Turn
     ensures { λ r. ⌜ r ≡ offers c start ⌝ }
 {
     let plan = c.plan;
-    sends(c.in_stage(Stage::Offering(start)), Query::offering(plan))
+    sends(c.in_phase(Phase::Offering(start)), Query::offering(plan))
 }
 
 // The new range, if any, gets its start from the largest edge.
@@ -83,8 +84,8 @@ pub(crate) fn larger(a: Position, b: Position) -> Position
 }
 
 // An edge that no unit tells never answers.
-pub(crate) fn sealed_at(c: Client, unit: u8, edge: Position, told: Position) -> Turn
-    ensures { λ r. ⌜ r ≡ sealedAt c unit edge told ⌝ }
+pub(crate) fn edge_taken(c: Client, unit: u8, edge: Position, told: Position) -> Turn
+    ensures { λ r. ⌜ r ≡ edgeTaken c unit edge told ⌝ }
 {
     if Position::LIMIT < told.0 {
         return rests(c);
@@ -99,7 +100,7 @@ pub(crate) fn on_sealed(c: Client, unit: u8, edge: Position, reply: Reply) -> Tu
     let Reply::Edge(told) = reply else {
         return otherwise(c, number_of(reply));
     };
-    sealed_at(c, unit, edge, told)
+    edge_taken(c, unit, edge, told)
 }
 
 // Starts the sequencer at the new epoch.
@@ -109,7 +110,7 @@ pub(crate) fn starts(c: Client, start: Position) -> Turn
     let plan = c.plan;
     let epoch = plan.epoch;
     sends(
-        c.in_stage(Stage::Starting),
+        c.in_phase(Phase::Starting),
         Query::plain(Ask::Start(epoch, start)),
     )
 }

@@ -1,9 +1,10 @@
 // A client between two steps. What an operation does not use is blank.
 ghost use mathlib.Core.Path.{_≡_};
-ghost use Rattle.client.specs.Client.{jobOf, appendOf, reorganiseOf, fresh, idle, noChange, busy, inStage, atPosition, carrying, holding, planning};
+ghost use Rattle.client.specs.Client.{jobOf, appendOf, reorganiseOf, fresh, idle, noChange, busy, inPhase, atPosition, carrying, holding, planning};
 use crate::Change;
 use crate::Client;
 use crate::Page;
+use crate::Phase;
 use crate::Stage;
 use crate::Work;
 use layout::Chain;
@@ -89,16 +90,7 @@ impl Stage {
         match self {
             Stage::Idle => false,
             Stage::Fetching => true,
-            Stage::Drawing(_) => true,
-            Stage::Writing(_, _) => true,
-            Stage::Reading(_) => true,
-            Stage::Filling(_) => true,
-            Stage::Looking(_) => true,
-            Stage::Trimming(_) => true,
-            Stage::Pruning(_) => true,
-            Stage::Sealing(_, _) => true,
-            Stage::Offering(_) => true,
-            Stage::Starting => true,
+            Stage::Working(_) => true,
         }
     }
 }
@@ -138,8 +130,8 @@ impl Client {
         Client::idle(1, Request(0))
     }
 
-    pub(crate) fn in_stage(self, stage: Stage) -> Client
-        ensures { λ r. ⌜ r ≡ inStage self stage ⌝ }
+    pub(crate) fn in_phase(self, phase: Phase) -> Client
+        ensures { λ r. ⌜ r ≡ inPhase self phase ⌝ }
     {
         let used = self.used;
         let begun = self.begun;
@@ -153,7 +145,7 @@ impl Client {
             life: self.life,
             used,
             begun,
-            stage,
+            stage: Stage::Working(phase),
             work,
             change,
             position,

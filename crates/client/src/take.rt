@@ -1,7 +1,9 @@
 // An answer comes to a client: what it does next.
 ghost use mathlib.Core.Path.{_≡_};
-ghost use Rattle.client.specs.Take.{goesOn, holds, onFetched, answered, awaited, takes};
+ghost use Rattle.client.specs.Take.{goesOn, holds, onFetched, worked, answered, awaited, takes};
 use crate::Client;
+use crate::Page;
+use crate::Phase;
 use crate::Reply;
 use crate::Response;
 use crate::Stage;
@@ -70,6 +72,24 @@ pub(crate) fn on_fetched(c: Client, reply: Reply, held: Layout) -> Turn
     holds(c, held)
 }
 
+// The answer that a phase waits for.
+pub(crate) fn worked(phase: Phase, c: Client, reply: Reply, page: Page) -> Turn
+    ensures { λ r. ⌜ r ≡ worked phase c reply page ⌝ }
+{
+    match phase {
+        Phase::Drawing(n) => on_token(c, n, reply),
+        Phase::Writing(unit, n) => on_written(c, unit, n, reply),
+        Phase::Reading(_) => on_read(c, reply, page),
+        Phase::Filling(unit) => on_filled(c, unit, reply),
+        Phase::Looking(unit) => on_looked(c, unit, reply, page),
+        Phase::Trimming(unit) => on_trimmed(c, unit, reply),
+        Phase::Pruning(unit) => on_pruned(c, unit, reply),
+        Phase::Sealing(unit, edge) => on_sealed(c, unit, edge, reply),
+        Phase::Offering(start) => on_offered(c, start, reply),
+        Phase::Starting => on_started(c, reply),
+    }
+}
+
 // The answer to the outstanding request.
 pub(crate) fn answered(stage: Stage, c: Client, response: Response) -> Turn
     ensures { λ r. ⌜ r ≡ answered stage c response ⌝ }
@@ -80,16 +100,7 @@ pub(crate) fn answered(stage: Stage, c: Client, response: Response) -> Turn
     match stage {
         Stage::Idle => rests(c),
         Stage::Fetching => on_fetched(c, reply, held),
-        Stage::Drawing(n) => on_token(c, n, reply),
-        Stage::Writing(unit, n) => on_written(c, unit, n, reply),
-        Stage::Reading(_) => on_read(c, reply, page),
-        Stage::Filling(unit) => on_filled(c, unit, reply),
-        Stage::Looking(unit) => on_looked(c, unit, reply, page),
-        Stage::Trimming(unit) => on_trimmed(c, unit, reply),
-        Stage::Pruning(unit) => on_pruned(c, unit, reply),
-        Stage::Sealing(unit, edge) => on_sealed(c, unit, edge, reply),
-        Stage::Offering(start) => on_offered(c, start, reply),
-        Stage::Starting => on_started(c, reply),
+        Stage::Working(phase) => worked(phase, c, reply, page),
     }
 }
 

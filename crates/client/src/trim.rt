@@ -3,9 +3,10 @@ ghost use mathlib.Core.Path.{_≡_};
 ghost use Rattle.client.specs.Trim.{trims, trimsOn, onTrimmed, prunes, prunesOn, onPruned};
 use crate::Ask;
 use crate::Client;
+use crate::Phase;
 use crate::Query;
 use crate::Reply;
-use crate::Stage;
+use crate::UnitAsk;
 use crate::message::number_of;
 use crate::turn::Turn;
 use crate::turn::ends;
@@ -23,8 +24,8 @@ pub(crate) fn trims(c: Client, unit: u8) -> Turn
     let epoch = held.epoch;
     let position = c.position;
     sends(
-        c.in_stage(Stage::Trimming(unit)),
-        Query::plain(Ask::Trim(unit, epoch, position)),
+        c.in_phase(Phase::Trimming(unit)),
+        Query::plain(Ask::Unit(unit, UnitAsk::Trim(epoch, position))),
     )
 }
 
@@ -57,8 +58,8 @@ pub(crate) fn prunes(c: Client, unit: u8) -> Turn
     let epoch = held.epoch;
     let position = c.position;
     sends(
-        c.in_stage(Stage::Pruning(unit)),
-        Query::plain(Ask::Prune(unit, epoch, position)),
+        c.in_phase(Phase::Pruning(unit)),
+        Query::plain(Ask::Unit(unit, UnitAsk::Prune(epoch, position))),
     )
 }
 

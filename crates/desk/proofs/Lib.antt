@@ -1,3 +1,4 @@
 pub mod Telling
 pub mod Wishes
 pub mod Making
+pub mod Unique

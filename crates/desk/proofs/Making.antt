@@ -24,7 +24,7 @@ use Rattle.layout.proofs.Planning.{reorganise-fine}
 use Rattle.layout.proofs.Starting.{started-same}
 use Rattle.layout.proofs.Settling.{startedPlan, plan-started}
 use Rattle.desk.specs.Told.{fineSets, planRefusal, madeAnswer, newLayout, planTold}
-use Rattle.desk.specs.Made.{emptyWish, IsMade}
+use Rattle.desk.specs.InsideMade.{emptyWish, IsMade}
 use Rattle.desk.proofs.Wishes.{wish-answers, wish-news}
 
 blank-started : (edge : ℕ) → startedAt blank edge ≡ record { answer = 0; layout = blank; first = record { 0 = edge } }

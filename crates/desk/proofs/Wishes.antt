@@ -24,7 +24,7 @@ use Rattle.layout.proofs.Parsing.{sets-length}
 use Rattle.layout.proofs.Scanning.{set-tested, all-good}
 use Rattle.layout.proofs.Planning.{checks-fine}
 use Rattle.desk.specs.Told.{fineSets, planRefusal}
-use Rattle.desk.specs.Made.{namedSets, emptyWish}
+use Rattle.desk.specs.InsideMade.{namedSets, emptyWish}
 
 -- ---- the units that are named
 

@@ -1,3 +1,2 @@
 pub mod Told
-pub mod Made
-pub mod Unique
+pub mod InsideMade

@@ -39,7 +39,7 @@ a then b = cond (eqb a 0) b a
 unfoldable pub fineSets : List ℕ → Bool
 fineSets b = eqb (length b) 0 || areSets b
 
--- 10: the held layout is not good; then the checks in the paper's order, 15, 10, 13, 14
+-- 10: the held layout is not good; then the checks in the order of docs/RULES.md, 8.3, 15, 10, 13, 14
 unfoldable pub planRefusal : Layout → List ℕ → List ℕ → ℕ
 planRefusal held drops new = lowest (10 if not (goodValue held) ∷ planChecks (layOf held) drops (fineSets new) (setsSaid new))
 

@@ -4,7 +4,7 @@ ghost use mathlib.Core.Bool.{cond, _||_, not};
 ghost use Rattle.layout.specs.Codec.{setsSaid, wishSaid};
 ghost use Rattle.layout.specs.Plan.{badDrops};
 ghost use Rattle.desk.specs.Told.{fineSets};
-ghost use Rattle.desk.specs.Made.{namedSets, emptyWish, IsMade};
+ghost use Rattle.desk.specs.InsideMade.{namedSets, emptyWish, IsMade};
 use layout::Chain;
 use layout::Layout;
 use layout::Wish;

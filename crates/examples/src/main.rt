@@ -1,4 +1,4 @@
-// The paper's marked examples: what each row of their table is answered is printed, and compared with what the paper says.
+// The marked examples of docs/RULES.md, 13: what each row of their table is answered is printed, and compared with what is marked.
 use marked::wrong_rows;
 
 fn main() {

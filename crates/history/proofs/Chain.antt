@@ -1,33 +1,34 @@
 -- Law C, head to tail: while v may still take requests of the layout L, or L is in force, what v is marked with at p,
 -- every unit before v in p's set is marked with too, by L's epoch.
 -- Rests on laws A and B.
-use mathlib.Core.Path.{_≡_, subst}
-use mathlib.Core.List.{List}
+use mathlib.Core.Path.{_≡_, ap, subst}
 use Prim.Native.Nat.{_<_}
 use native.Mathlib.Omega.{arith}
 use native.Mathlib.Decide.{decLt}
-use Rattle.history.specs.Words.{UnitNo, Pos, Epoch, Page, _∈_, Before, Rising}
+use Rattle.history.specs.Words.{UnitNo, Pos, Epoch, Page, Before}
 use Rattle.history.specs.Maps.{Map, Has, Serves, Renewed}
-use Rattle.history.specs.History.{History, Laid, Mark, Marked, MarkedBy, held}
+use Rattle.history.specs.History.{Stretch, Covers, History, Laid, Mark, Marked, MarkedBy, held}
 use Rattle.history.specs.History.Laid.{laid-now, laid-before}
 use Rattle.history.specs.History.Mark.{page}
-use Rattle.history.specs.History.Marked.{marked-write, marked-trim, marked-prune, marked-before}
-use Rattle.history.specs.Events.{Takes, MayInstall, Run}
+use Rattle.history.specs.History.Marked.{marked-now, marked-before}
+use Rattle.history.specs.Events.{Takes, MayMark, MayInstall, Run}
 use Rattle.history.specs.Events.Run.{run-step}
 use Rattle.history.proofs.Order.{less-before}
-use Rattle.history.proofs.Moments.{lift}
+use Rattle.history.proofs.Moments.{lift, longer}
 use Rattle.history.proofs.Epochs.{held-laid, laid-good, Live, live-back, one-layout}
 use Rattle.history.proofs.Epochs.Live.{unsealed, in-force}
 use Rattle.history.proofs.Marks.{page-one}
 
--- ---- a request that is taken comes of the layout that is live
+-- ---- a mark that is taken comes of the layout that is live
 
--- L₂ is L, so what was seen to before v in L₂ holds before v in L. `along` is the list that the request walks: a set, or all units.
-walked : {h : History} {L L₂ : Map} {p : Pos} {u v : UnitNo} {m : Mark} (along : Map → List UnitNo) → L ≡ L₂ →
-    Rising (along L) → u ∈ along L → v ∈ along L → u < v → (Before u v (along L₂) → MarkedBy h u p m (L₂ .epoch)) → MarkedBy h u p m (L .epoch)
-walked {h} {L} {L₂} {p} {u} {v} {m} along same rising u-in v-in lt =
-    subst (λ l. (Before u v (along l) → MarkedBy h u p m (l .epoch)) → MarkedBy h u p m (L .epoch)) same
-    (λ above. above (less-before rising u-in v-in lt))
+-- the client goes by L, so what it has seen to before v in its layout holds before v in L
+walked-before : {h : History} {L : Map} {p : Pos} {u v : UnitNo} {e : Epoch} {ps : Stretch} {m : Mark} →
+    Run h → Laid h L → Serves L p u → Serves L p v → u < v → Live h L v → MayMark h v e ps m → Covers ps p → MarkedBy h u p m (L .epoch)
+walked-before {L = L} {p} {u} {v} run laid su sv lt live may there =
+    let good = laid-good run laid in
+    let same : L ≡ may .walked .by = one-layout run laid (good .set-within p v sv) live (may .takes) in
+    let before = subst (λ (l : Map). Before u v (l .set p)) same (less-before (good .set-rises p) su sv lt) in
+    longer (omega (arith, ap (λ (l : Map). l .epoch) same, may .walked .epoch-is)) (may .walked .above p there u before)
 
 -- ---- a layout that is installed
 
@@ -51,18 +52,7 @@ joined {h} {L} {p} {u} {v} {m} {a} may old su sv lt mk less = go (decLt (may .su
 
 pub chain : {h : History} {L : Map} {p : Pos} {u v : UnitNo} {m : Mark} {a : Epoch} →
     Run h → Laid h L → Serves L p u → Serves L p v → u < v → Live h L v → Marked h v p m a → MarkedBy h u p m (L .epoch)
-chain {L = L} {p} {u} {v} (run-step run may) (laid-before laid) su sv lt live marked-write =
-    let good = laid-good run laid in
-    let same = one-layout run laid (good .set-within p v sv) (live-back may live) (may .takes) in
-    lift (walked (λ l. l .set p) same (good .set-rises p) su sv lt (may .above u))
-chain {L = L} {p} {u} {v} (run-step run may) (laid-before laid) su sv lt live marked-trim =
-    let good = laid-good run laid in
-    let same = one-layout run laid (good .set-within p v sv) (live-back may live) (may .takes) in
-    lift (walked (λ l. l .set p) same (good .set-rises p) su sv lt (may .above u))
-chain {L = L} {p} {u} {v} (run-step run may) (laid-before laid) su sv lt live (marked-prune below) =
-    let good = laid-good run laid in
-    let same = one-layout run laid (good .set-within p v sv) (live-back may live) (may .takes) in
-    lift (walked (λ l. l .units) same (good .units-rise) (good .set-within p u su) (good .set-within p v sv) lt (λ before. may .above u before p below))
+chain (run-step run may) (laid-before laid) su sv lt live (marked-now there) = lift (walked-before run laid su sv lt (live-back may live) may there)
 chain (run-step run may) (laid-before laid) su sv lt live (marked-before mk) = lift (chain run laid su sv lt (live-back may live) mk)
 chain {L = L} {p} {u} {v} {m} {a} (run-step run may) laid-now su sv lt live (marked-before mk) =
     let old = not-renewed may (may .good .set-within p v sv) mk in

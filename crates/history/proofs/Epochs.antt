@@ -10,7 +10,7 @@ use borrow.Author.Tests.{eqb-true}
 use Rattle.history.specs.Words.{UnitNo, Epoch}
 use Rattle.history.specs.Maps.{Map, Has, Good}
 use Rattle.history.specs.History.{Event, History, Laid, held, sealed}
-use Rattle.history.specs.History.Event.{ask, write, trim, prune, seal, install}
+use Rattle.history.specs.History.Event.{ask, mark, seal, install}
 use Rattle.history.specs.History.History.{_▹_}
 use Rattle.history.specs.History.Laid.{laid-first, laid-now, laid-before}
 use Rattle.history.specs.Events.{Takes, May, Run}
@@ -21,18 +21,14 @@ use Rattle.history.specs.Events.Run.{run-fresh, run-step}
 pub held-rises : (h : History) (ev : Event) → May h ev → held h .epoch ≤ held (h ▹ ev) .epoch
 unfolding held
 held-rises h (ask w) may = omega arith
-held-rises h (write u L p X) may = omega arith
-held-rises h (trim u L p) may = omega arith
-held-rises h (prune u L q) may = omega arith
+held-rises h (mark u e ps m) may = omega arith
 held-rises h (seal u n) may = omega arith
 held-rises h (install L) may = omega (arith, may .epoch-next)
 
 pub sealed-rises : (h : History) (ev : Event) → May h ev → (u : UnitNo) → sealed h u ≤ sealed (h ▹ ev) u
 unfolding sealed
 sealed-rises h (ask w) may u = omega arith
-sealed-rises h (write v L p X) may u = omega arith
-sealed-rises h (trim v L p) may u = omega arith
-sealed-rises h (prune v L q) may u = omega arith
+sealed-rises h (mark v e ps m) may u = omega arith
 sealed-rises h (seal v n) may u = go (eqb v u) refl
   where
     go : (b : Bool) → eqb v u ≡ b → sealed h u ≤ cond b n (sealed h u)
@@ -46,9 +42,7 @@ pub held-laid : {h : History} → Run h → Laid h (held h)
 unfolding held
 held-laid (run-fresh good first) = laid-first
 held-laid (run-step {ev = ask w} run may) = laid-before (held-laid run)
-held-laid (run-step {ev = write u L p X} run may) = laid-before (held-laid run)
-held-laid (run-step {ev = trim u L p} run may) = laid-before (held-laid run)
-held-laid (run-step {ev = prune u L q} run may) = laid-before (held-laid run)
+held-laid (run-step {ev = mark u e ps m} run may) = laid-before (held-laid run)
 held-laid (run-step {ev = seal u n} run may) = laid-before (held-laid run)
 held-laid (run-step {ev = install L} run may) = laid-now
 
@@ -104,9 +98,7 @@ pub sealed-to : {h : History} → Run h → (u : UnitNo) → sealed h u ≤ held
 unfolding sealed held
 sealed-to (run-fresh good first) u = omega arith
 sealed-to (run-step {ev = ask w} run may) u = sealed-to run u
-sealed-to (run-step {ev = write v L p X} run may) u = sealed-to run u
-sealed-to (run-step {ev = trim v L p} run may) u = sealed-to run u
-sealed-to (run-step {ev = prune v L q} run may) u = sealed-to run u
+sealed-to (run-step {ev = mark v e ps m} run may) u = sealed-to run u
 sealed-to (run-step {h} {ev = seal v n} run may) u = go (eqb v u) (sealed-to run u)
   where
     go : (b : Bool) → sealed h u ≤ held h .epoch → cond b n (sealed h u) ≤ held h .epoch

@@ -16,25 +16,28 @@ use Rattle.history.specs.Words.Last.{last-here, last-later}
 use Rattle.history.specs.Words.Rising.{rising-none, rising-more}
 use Rattle.history.specs.Words.Answer.{shows, unwritten}
 use Rattle.history.specs.Maps.{Map, Has, Serves, Good, Renewed, Successor}
-use Rattle.history.specs.History.{History, Laid, MarkedBy, Unmarked, held, sealed}
+use Rattle.history.specs.History.{Event, History, MarkNoted, Laid, MarkedBy, Unmarked, held, sealed}
 use Rattle.history.specs.History.Note.{append}
-use Rattle.history.specs.History.Event.{ask, write, seal, install}
+use Rattle.history.specs.History.Event.{ask, mark, seal, install}
 use Rattle.history.specs.History.History.{fresh, _▹_}
+use Rattle.history.specs.History._⊑_.{here, later}
 use Rattle.history.specs.History.Noted.{noted-now, noted-before}
-use Rattle.history.specs.History.PageNoted.{by-append}
+use Rattle.history.specs.History.Stretch.{only}
+use Rattle.history.specs.History.Covers.{covers-only}
+use Rattle.history.specs.History.MarkNoted.{by-append}
 use Rattle.history.specs.History.Laid.{laid-first, laid-now, laid-before}
 use Rattle.history.specs.History.Mark.{page}
-use Rattle.history.specs.History.Marked.{marked-write}
-use Rattle.history.specs.Events.{Takes, MaySeal, MayInstall, Run}
+use Rattle.history.specs.Events.{Takes, MayMark, MaySeal, MayInstall, Run}
 use Rattle.history.specs.Events.Run.{run-fresh, run-step}
-use Rattle.history.specs.Edges.{Edge, SealAnswer}
+use Rattle.history.specs.Edges.{Edge, SealedAt, EdgeAt}
 use Rattle.history.specs.Safety.{Read, Settled}
 use Rattle.history.specs.Safety.Answers.{has-none}
 use Rattle.history.proofs.Order.{head-first}
-use Rattle.history.proofs.Moments.{lift}
+use Rattle.history.proofs.Stretches.{only-covers, of-only}
+use Rattle.history.proofs.Moments.{lift, marked-by-now}
 use Rattle.history.proofs.Marks.{no-mark}
-use Rattle.history.proofs.Units.{ask-touches, write-touches, seal-touches, install-touches, untouched, answers-on, edge-on, write-shows}
-use Rattle.history.proofs.Edges.{seal-answers, seal-on, may-install}
+use Rattle.history.proofs.Units.{ask-touches, mark-touches, seal-touches, install-touches, untouched, answers-on, edge-on, mark-shows}
+use Rattle.history.proofs.Edges.{sealed-at-now, sealed-at-on, edge-at-now, may-install}
 
 -- ---- lists of one and two
 
@@ -79,7 +82,6 @@ two = record { epoch = 2; units = 1 ∷ 3 ∷ []; start = 1; set = λ p. setOfTw
 
 one-good : Good one
 one-good = record {
-  units-rise = rising-two 1 2 (omega arith);
   set-rises = λ p. rising-two 1 2 (omega arith);
   set-within = λ p u su. su;
 }
@@ -95,7 +97,6 @@ two-within false there = there
 
 two-good : Good two
 two-good = record {
-  units-rise = rising-two 1 3 (omega arith);
   set-rises = λ p. two-rises (ltb p 1);
   set-within = λ p u. two-within (ltb p 1);
 }
@@ -118,23 +119,26 @@ follower = record {
 
 -- ---- the history
 
+abbrev write : UnitNo → Epoch → Pos → Page → Event
+write u e p X = mark u e (only p) (page X)
+
 module _ (X Y : Page) where
   abbrev asked : History
   asked = fresh one ▹ ask (append X) ▹ ask (append Y)
 
   -- X is at its head; then units 1 and 3 are sealed
   abbrev begun : History
-  begun = asked ▹ write 1 one 0 X
+  begun = asked ▹ write 1 1 0 X
 
   abbrev closed : History
   closed = begun ▹ seal 1 1 ▹ seal 3 1
 
   -- Y is appended in the new range; and only then the last write of X arrives at unit 2
   abbrev reopened : History
-  reopened = closed ▹ install two ▹ write 1 two 1 Y ▹ write 3 two 1 Y
+  reopened = closed ▹ install two ▹ write 1 2 1 Y ▹ write 3 2 1 Y
 
   abbrev ended : History
-  ended = reopened ▹ write 2 one 0 X
+  ended = reopened ▹ write 2 1 0 X
 
   -- ---- where nothing is marked
 
@@ -142,8 +146,8 @@ module _ (X Y : Page) where
   asked-empty u g = edge-on (λ p at. ask-touches) (edge-on (λ p at. ask-touches) (λ p at m a. no-mark))
 
   -- a write at another unit or position
-  other : {h : History} {u v : UnitNo} {L : Map} {p q : Pos} {Z : Page} → ¬ ((v ≡ u) × (q ≡ p)) → Unmarked h v q → Unmarked (h ▹ write u L p Z) v q
-  other differ none m a mk = none m a (untouched (λ t. differ (write-touches t)) mk)
+  other : {h : History} {u v : UnitNo} {e : Epoch} {p q : Pos} {Z : Page} → ¬ ((v ≡ u) × (q ≡ p)) → Unmarked h v q → Unmarked (h ▹ write u e p Z) v q
+  other differ none m a mk = none m a (untouched (λ t. differ (mark-touches t .0, only-covers (mark-touches t .1))) mk)
 
   -- the edge of unit 1 is 1, that of another unit is 0
   edge-one : Edge begun 1 1
@@ -162,17 +166,31 @@ module _ (X Y : Page) where
 
   -- ---- each event may come
 
+  may-write : {h : History} {u : UnitNo} {L : Map} {p : Pos} {Z : Page} → Takes h u L → Unmarked h u p →
+      ((v : UnitNo) → Before v u (L .set p) → MarkedBy h v p (page Z) (L .epoch)) → MarkNoted h p (page Z) → MayMark h u (L .epoch) (only p) (page Z)
+  may-write {h} {u} {L} {p} {Z} takes unmarked above was-asked = record {
+    walked = record {
+      by = L;
+      laid = takes .laid;
+      epoch-is = refl;
+      has = takes .has;
+      above = of-only (λ q. (v : UnitNo) → Before v u (L .set q) → MarkedBy h v q (page Z) (L .epoch)) above;
+      asked = of-only (λ q. MarkNoted h q (page Z)) was-asked;
+    };
+    takes = takes;
+    free = of-only (λ q. Unmarked h u q) unmarked;
+  }
+
   run-asked : Run asked
   run-asked = run-step {ev = ask (append Y)} (run-step {ev = ask (append X)} (run-fresh one-good refl) tt) tt
 
   run-begun : Run begun
   unfolding sealed
-  run-begun = run-step {ev = write 1 one 0 X} run-asked (record {
-    takes = record { laid = laid-before (laid-before laid-first); has = first; unsealed = omega arith };
-    unmarked = asked-empty 1 0 0 (omega arith);
-    above = λ v before. absurd (head-first (one-good .set-rises 0) before);
-    asked = by-append (noted-before noted-now);
-  })
+  run-begun = run-step {ev = write 1 1 0 X} run-asked
+      (may-write {L = one} (record { laid = laid-before (laid-before laid-first); has = first; unsealed = omega arith })
+      (asked-empty 1 0 0 (omega arith))
+      (λ v before. absurd (head-first (one-good .set-rises 0) before))
+      (by-append (noted-before noted-now)))
 
   seal-one : MaySeal begun 1 1
   unfolding sealed held
@@ -188,14 +206,22 @@ module _ (X Y : Page) where
   run-closed : Run closed
   run-closed = run-step {ev = seal 3 1} run-sealed seal-three
 
-  answers : (u : UnitNo) → Has two u → SealAnswer closed u 1 1
-  answers u first = seal-on {ev = seal 3 1} run-sealed seal-three (seal-answers edge-one)
-  answers u (next first) = seal-answers (edge-on (λ p at. seal-touches) (λ p at. edge-else 3 (omega arith) p (omega arith)))
-  answers u (next (next there)) = absurd (none-in there)
+  sealed-both : (u : UnitNo) → Has two u → SealedAt closed u 1
+  sealed-both u first = sealed-at-on run-closed (later here) sealed-at-now
+  sealed-both u (next first) = sealed-at-now
+  sealed-both u (next (next there)) = absurd (none-in there)
+
+  edge-closed : {u : UnitNo} {g : Pos} → Edge begun u g → EdgeAt closed u 1 g
+  edge-closed edge = edge-at-now (edge-on (λ p from. seal-touches) (edge-on (λ p from. seal-touches) edge))
+
+  edges : (u : UnitNo) → Has two u → EdgeAt closed u 1 1
+  edges u first = edge-closed edge-one
+  edges u (next first) = edge-closed (λ p from. edge-else 3 (omega arith) p (omega arith))
+  edges u (next (next there)) = absurd (none-in there)
 
   installs : MayInstall closed two
   unfolding held follower
-  installs = may-install 1 run-closed two-good refl follower (λ p u. refl) answers (λ more. omega arith)
+  installs = may-install 1 run-closed two-good refl follower (λ p u. refl) sealed-both edges (λ more. omega arith)
 
   run-installed : Run (closed ▹ install two)
   run-installed = run-step {ev = install two} run-closed installs
@@ -206,17 +232,15 @@ module _ (X Y : Page) where
 
   run-reopened : Run reopened
   unfolding sealed
-  run-reopened = run-step {ev = write 3 two 1 Y} (run-step {ev = write 1 two 1 Y} run-installed (record {
-    takes = record { laid = laid-now; has = first; unsealed = omega arith };
-    unmarked = unmarked-on (edge-one 1 (omega arith));
-    above = λ v before. absurd (head-first (two-good .set-rises 1) before);
-    asked = by-append (noted-before (noted-before (noted-before (noted-before noted-now))));
-  })) (record {
-    takes = record { laid = laid-before laid-now; has = next first; unsealed = omega arith };
-    unmarked = other (λ same. omega (arith, same .0)) (unmarked-on (edge-else 3 (omega arith) 1 (omega arith)));
-    above = λ v before. second-has (record { epoch = 2; by = omega arith; marked = marked-write }) before;
-    asked = by-append (noted-before (noted-before (noted-before (noted-before (noted-before noted-now)))));
-  })
+  run-reopened = run-step {ev = write 3 2 1 Y} (run-step {ev = write 1 2 1 Y} run-installed
+      (may-write {L = two} (record { laid = laid-now; has = first; unsealed = omega arith })
+      (unmarked-on (edge-one 1 (omega arith)))
+      (λ v before. absurd (head-first (two-good .set-rises 1) before))
+      (by-append (noted-before (noted-before (noted-before (noted-before noted-now)))))))
+      (may-write {L = two} (record { laid = laid-before laid-now; has = next first; unsealed = omega arith })
+      (other (λ same. omega (arith, same .0)) (unmarked-on (edge-else 3 (omega arith) 1 (omega arith))))
+      (λ v before. second-has (marked-by-now covers-only) before)
+      (by-append (noted-before (noted-before (noted-before (noted-before (noted-before noted-now)))))))
 
   laid-one-still : Laid reopened one
   laid-one-still = laid-before (laid-before (laid-before (laid-before (laid-before (laid-before (laid-before (laid-before laid-first)))))))
@@ -226,15 +250,14 @@ module _ (X Y : Page) where
   takes-late = record { laid = laid-one-still; has = next first; unsealed = omega arith }
 
   head-had : MarkedBy reopened 1 0 (page X) 1
-  head-had = lift (lift (lift (lift (lift (record { epoch = 1; by = omega arith; marked = marked-write })))))
+  head-had = lift (lift (lift (lift (lift (marked-by-now covers-only)))))
 
   run-ended : Run ended
-  run-ended = run-step {ev = write 2 one 0 X} run-reopened (record {
-    takes = takes-late;
-    unmarked = unmarked-end (omega arith) (λ same. omega arith);
-    above = λ v before. second-has head-had before;
-    asked = by-append (noted-before (noted-before (noted-before (noted-before (noted-before (noted-before (noted-before noted-now)))))));
-  })
+  run-ended = run-step {ev = write 2 1 0 X} run-reopened
+      (may-write {L = one} takes-late
+      (unmarked-end (omega arith) (λ same. omega arith))
+      (λ v before. second-has head-had before)
+      (by-append (noted-before (noted-before (noted-before (noted-before (noted-before (noted-before (noted-before noted-now)))))))))
 
   -- ---- reads
 
@@ -246,16 +269,16 @@ module _ (X Y : Page) where
     is-tail = last-here;
     takes = record { laid = laid-before (laid-before (laid-before laid-now)); has = first; unsealed = omega arith };
     answers =
-        answers-on (λ t. omega (arith, write-touches t .0))
-        (answers-on (λ t. omega (arith, write-touches t .0))
-        (answers-on (λ t. omega (arith, write-touches t .1))
-        (answers-on install-touches (answers-on seal-touches (answers-on seal-touches (write-shows (asked-empty 1 0 0 (omega arith))))))));
+        answers-on (λ t. omega (arith, mark-touches t .0))
+        (answers-on (λ t. omega (arith, mark-touches t .0))
+        (answers-on (λ t. omega (arith, only-covers (mark-touches t .1)))
+        (answers-on install-touches (answers-on seal-touches (answers-on seal-touches (mark-shows (page X) (asked-empty 1 0 0 (omega arith)) covers-only))))));
   }
 
   -- Y is settled at 1, and yet the old tail answers "unwritten" there: only reads under the layout in force count
   all-have : (u : UnitNo) → u ∈ (1 ∷ 3 ∷ []) → MarkedBy reopened u 1 (page Y) 2
-  all-have u first = lift (record { epoch = 2; by = omega arith; marked = marked-write })
-  all-have u (next first) = record { epoch = 2; by = omega arith; marked = marked-write }
+  all-have u first = lift (marked-by-now covers-only)
+  all-have u (next first) = marked-by-now covers-only
   all-have u (next (next there)) = absurd (none-in there)
 
   settled : Settled reopened two 1 (page Y)

@@ -6,16 +6,16 @@ use Prim.Native.Nat.{suc, _≤_, _<_}
 use native.Mathlib.Omega.{arith}
 use Rattle.history.specs.Words.{UnitNo, Pos, Epoch}
 use Rattle.history.specs.Maps.{Map, Has, Serves, Renewed, Successor}
-use Rattle.history.specs.History.{Event, History, Laid, Mark, Marked, MarkedBy, held}
+use Rattle.history.specs.History.{Stretch, Event, History, Laid, Mark, Marked, MarkedBy, held}
 use Rattle.history.specs.History.Event.{install}
 use Rattle.history.specs.History.History.{_▹_}
 use Rattle.history.specs.History.Laid.{laid-first, laid-now, laid-before}
 use Rattle.history.specs.History.Marked.{marked-before}
-use Rattle.history.specs.Events.{Takes, MayInstall, May, Run}
+use Rattle.history.specs.Events.{MayMark, MayInstall, May, Run}
 use Rattle.history.specs.Events.Run.{run-fresh, run-step}
 use Rattle.history.proofs.Moments.{lift}
 use Rattle.history.proofs.Epochs.{held-laid, laid-by, laid-one, sealed-from}
-use Rattle.history.proofs.Marks.{Came, came}
+use Rattle.history.proofs.Marks.{Came, came, mark-epoch}
 use Rattle.history.proofs.Marks.Came.{was-there, taken-now}
 
 -- `new` came right after `old`
@@ -47,19 +47,19 @@ follows-now may = record {
 -- ---- and ever after
 
 -- a unit of L takes no more marks of an epoch before L's
-pub mark-late : {h : History} {L L₂ : Map} {u : UnitNo} → Run h → Laid h L → Has L u → Takes h u L₂ → L .epoch ≤ L₂ .epoch
-mark-late {u = u} run laid has takes = omega (arith, sealed-from u run laid has, takes .unsealed)
+pub mark-late : {h : History} {L : Map} {u : UnitNo} {e : Epoch} {ps : Stretch} {m : Mark} → Run h → Laid h L → Has L u → MayMark h u e ps m → L .epoch ≤ e
+mark-late {u = u} run laid has may = omega (arith, sealed-from u run laid has, mark-epoch run may)
 
 clear-on : {h : History} {old new : Map} {u : UnitNo} {p : Pos} {m : Mark} {a : Epoch} →
     Run h → Laid h new → Follows h old new → Has new u → Renewed old new p → Came h u p m a → old .epoch < a
 clear-on {u = u} {p} {m} {a} run laid f has in-new (was-there mk) = f .clear u p has in-new m a mk
-clear-on run laid f has in-new (taken-now takes) = omega (arith, mark-late run laid has takes, f .epoch-next)
+clear-on run laid f has in-new (taken-now may there) = omega (arith, mark-late run laid has may, f .epoch-next)
 
 carried-on : {h : History} {ev : Event} {old new : Map} {u : UnitNo} {p : Pos} {m : Mark} {a : Epoch} →
     Run h → Laid h new → (f : Follows h old new) → ¬ Renewed old new p → Serves new p u → Came h (f .successor .source p u) p m a → a ≤ old .epoch → MarkedBy (h ▹ ev) u p m (new .epoch)
 carried-on {u = u} {p} {m} {a} run laid f is-old su (was-there mk) le = lift (f .carried u p is-old su m a mk le)
-carried-on {u = u} {p} run laid f is-old su (taken-now takes) le =
-    absurd (omega (arith, mark-late run laid (f .successor .source-has p u is-old su) takes, f .epoch-next))
+carried-on {u = u} {p} run laid f is-old su (taken-now may there) le =
+    absurd (omega (arith, mark-late run laid (f .successor .source-has p u is-old su) may, f .epoch-next))
 
 follows-on : {h : History} {ev : Event} {old new : Map} → Run h → May h ev → Laid h new → Follows h old new → Follows (h ▹ ev) old new
 follows-on run may laid f = record {

@@ -1,5 +1,6 @@
 -- The laws of the history, in the order in which each rests on those before it.
 pub mod Order
+pub mod Stretches
 pub mod Moments
 pub mod Epochs
 pub mod Marks

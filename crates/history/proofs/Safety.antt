@@ -7,7 +7,7 @@ use native.Mathlib.Decide.{decLe}
 use Rattle.history.specs.Words.{Pos, Page, Answer}
 use Rattle.history.specs.Words.Answer.{shows, trimmed}
 use Rattle.history.specs.Maps.{Map}
-use Rattle.history.specs.History.{History, _⊑_, PageNoted, Mark, MarkedBy, held}
+use Rattle.history.specs.History.{History, _⊑_, MarkNoted, Mark, MarkedBy, held}
 use Rattle.history.specs.History.Mark.{page, gone}
 use Rattle.history.specs.Events.{Run}
 use Rattle.history.specs.Safety.{Answers, Read, Settled, After, Safe}
@@ -16,7 +16,7 @@ use Rattle.history.specs.Safety.After.{that-page, trim-asked}
 use Rattle.history.proofs.Order.{last-in}
 use Rattle.history.proofs.Moments.{run-part}
 use Rattle.history.proofs.Epochs.{laid-by}
-use Rattle.history.proofs.Marks.{page-one, page-asked, gone-asked}
+use Rattle.history.proofs.Marks.{page-one, mark-asked}
 use Rattle.history.proofs.Settled.{tail-settles, settled-on, settled-later, settled-agree}
 
 -- ---- a read that returns a page, or "trimmed", shows what the whole set has
@@ -57,8 +57,8 @@ module _ {h : History} (run : Run h) where
       go (yes le) = settled-agree (r₂ .tail) run le s₁ s₂ (last-in (r₂ .is-tail))
       go (no gt) = sym (settled-agree (r₁ .tail) run (omega arith) s₂ s₁ (last-in (r₁ .is-tail)))
 
-  asked : {h₁ : History} {L : Map} {p : Pos} {X : Page} → h₁ ⊑ h → Read h₁ L p (shows X) → PageNoted h₁ p X
-  asked part r = page-asked (run-part part run) (page-settled (run-part part run) r .all (r .tail) (last-in (r .is-tail)) .marked)
+  asked : {h₁ : History} {L : Map} {p : Pos} {X : Page} → h₁ ⊑ h → Read h₁ L p (shows X) → MarkNoted h₁ p (page X)
+  asked part r = mark-asked (run-part part run) (page-settled (run-part part run) r .all (r .tail) (last-in (r .is-tail)) .marked)
 
   stays : {h₁ h₂ : History} {L₁ L₂ : Map} {p : Pos} {X : Page} {r : Answer} →
       h₁ ⊑ h₂ → h₂ ⊑ h → Settled h₁ L₁ p (page X) → Read h₂ L₂ p r → held h₂ .epoch ≤ L₂ .epoch → After h₂ p X r
@@ -72,7 +72,7 @@ module _ {h : History} (run : Run h) where
 
       go : {r : Answer} → Answers h₂ (read .tail) p r → After h₂ p X r
       go (has-page other still) = subst (λ Y. After h₂ p X (shows Y)) (page-one run₂ (mk .marked) other) that-page
-      go (has-gone away) = trim-asked (gone-asked run₂ away)
+      go (has-gone away) = trim-asked (mark-asked run₂ away)
       go (has-none none) = absurd (none _ _ (mk .marked))
 
   gone-stays : {h₁ h₂ : History} {L₁ L₂ : Map} {p : Pos} {r : Answer} →

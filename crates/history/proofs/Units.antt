@@ -2,17 +2,18 @@
 -- Rests on specs/Edges and Safety.
 use mathlib.Core.Path.{_≡_, refl, sym}
 use mathlib.Core.Bool.{Bool, true, false, cond}
-use Prim.Native.Nat.{_≤_, _<_}
+use Prim.Native.Nat.{_≤_}
 use lib.Dec.{eqb}
 use borrow.Author.Tests.{eqb-true, eqb-false}
-use Rattle.history.specs.Words.{UnitNo, Pos, Epoch, Page, Answer}
+use Rattle.history.specs.Words.{UnitNo, Pos, Epoch, Answer}
 use Rattle.history.specs.Words.Answer.{shows, trimmed}
 use Rattle.history.specs.Maps.{Map}
-use Rattle.history.specs.History.{Note, Event, History, Mark, Marked, Unmarked, sealed}
-use Rattle.history.specs.History.Event.{ask, write, trim, prune, seal, install}
+use Rattle.history.specs.History.{Note, Stretch, Covers, Event, History, Mark, Marked, sealed}
+use Rattle.history.specs.History.Event.{ask, mark, seal, install}
 use Rattle.history.specs.History.History.{_▹_}
-use Rattle.history.specs.History.Mark.{gone}
-use Rattle.history.specs.History.Marked.{marked-write, marked-trim, marked-prune, marked-before}
+use Rattle.history.specs.History.Mark.{page, gone}
+use Rattle.history.specs.History.Marked.{marked-now, marked-before}
+use Rattle.history.specs.Events.{Free}
 use Rattle.history.specs.Edges.{Edge}
 use Rattle.history.specs.Safety.{Answers}
 use Rattle.history.specs.Safety.Answers.{has-page, has-gone, has-none}
@@ -21,19 +22,11 @@ use Rattle.history.specs.Safety.Answers.{has-page, has-gone, has-none}
 
 -- the event marks u at p
 pub data Touches : Event → UnitNo → Pos → Type 0 where
-  touches-write : {u : UnitNo} {L : Map} {p : Pos} {X : Page} → Touches (write u L p X) u p
-  touches-trim : {u : UnitNo} {L : Map} {p : Pos} → Touches (trim u L p) u p
-  touches-prune : {u : UnitNo} {L : Map} {p q : Pos} → p < q → Touches (prune u L q) u p
+  touches-mark : {u : UnitNo} {e : Epoch} {ps : Stretch} {p : Pos} {m : Mark} → Covers ps p → Touches (mark u e ps m) u p
 
--- a write and a trim touch one position of their unit, a prune all below its own, and the other events none
-pub write-touches : {u v : UnitNo} {L : Map} {p q : Pos} {X : Page} → Touches (write u L p X) v q → (v ≡ u) × (q ≡ p)
-write-touches touches-write = (refl, refl)
-
-pub trim-touches : {u v : UnitNo} {L : Map} {p q : Pos} → Touches (trim u L p) v q → (v ≡ u) × (q ≡ p)
-trim-touches touches-trim = (refl, refl)
-
-pub prune-touches : {u v : UnitNo} {L : Map} {p q : Pos} → Touches (prune u L p) v q → (v ≡ u) × (q < p)
-prune-touches (touches-prune below) = (refl, below)
+-- a mark touches what its positions cover of its unit, and the other events nothing
+pub mark-touches : {u v : UnitNo} {e : Epoch} {ps : Stretch} {p : Pos} {m : Mark} → Touches (mark u e ps m) v p → (v ≡ u) × Covers ps p
+mark-touches (touches-mark there) = (refl, there)
 
 pub ask-touches : {w : Note} {v : UnitNo} {q : Pos} → ¬ Touches (ask w) v q
 ask-touches = elim [ ]
@@ -45,9 +38,7 @@ pub install-touches : {v : UnitNo} {L : Map} {q : Pos} → ¬ Touches (install L
 install-touches = elim [ ]
 
 pub untouched : {h : History} {ev : Event} {u : UnitNo} {p : Pos} {m : Mark} {a : Epoch} → ¬ Touches ev u p → Marked (h ▹ ev) u p m a → Marked h u p m a
-untouched none marked-write = absurd (none touches-write)
-untouched none marked-trim = absurd (none touches-trim)
-untouched none (marked-prune below) = absurd (none (touches-prune below))
+untouched none (marked-now there) = absurd (none (touches-mark there))
 untouched none (marked-before mk) = mk
 
 -- a unit that is not touched at p answers as before, and its edge stays an edge
@@ -61,18 +52,18 @@ edge-on none edge p at m a mk = edge p at m a (untouched (none p at) mk)
 
 -- ---- what it does where it touches
 
-pub write-shows : {h : History} {u : UnitNo} {L : Map} {p : Pos} {X : Page} → Unmarked h u p → Answers (h ▹ write u L p X) u p (shows X)
-write-shows unmarked = has-page marked-write (not-gone unmarked)
+-- what a unit that has the mark answers to a read
+abbrev pub shownAs : Mark → Answer
+shownAs (page X) = shows X
+shownAs gone = trimmed
+
+-- where a unit takes a mark it answers with it: a page was taken where nothing was, and what is gone is trimmed whatever was there before
+pub mark-shows : {h : History} {u : UnitNo} {e : Epoch} {ps : Stretch} {p : Pos} (m : Mark) → Free h u p m → Covers ps p → Answers (h ▹ mark u e ps m) u p (shownAs m)
+mark-shows {h} {u} {e} {ps} {p} (page X) free there = has-page (marked-now there) not-gone
   where
-    not-gone : {h : History} {u : UnitNo} {L : Map} {p : Pos} {X : Page} → Unmarked h u p → (b : Epoch) → ¬ Marked (h ▹ write u L p X) u p gone b
-    not-gone unmarked b (marked-before away) = unmarked gone b away
-
--- written or not, trimmed or not: afterwards it is trimmed
-pub trim-shows : {h : History} {u : UnitNo} {L : Map} {p : Pos} → Answers (h ▹ trim u L p) u p trimmed
-trim-shows = has-gone marked-trim
-
-pub prune-shows : {h : History} {u : UnitNo} {L : Map} {p q : Pos} → p < q → Answers (h ▹ prune u L q) u p trimmed
-prune-shows below = has-gone (marked-prune below)
+    not-gone : (b : Epoch) → ¬ Marked (h ▹ mark u e ps (page X)) u p gone b
+    not-gone b (marked-before away) = free gone b away
+mark-shows gone free there = has-gone (marked-now there)
 
 -- ---- the sealed epoch
 

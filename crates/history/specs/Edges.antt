@@ -8,7 +8,10 @@ use Rattle.history.specs.History.{History, Unmarked, held, sealed}
 abbrev pub Edge : History → UnitNo → Pos → Type 0
 Edge h u g = (p : Pos) → g ≤ p → Unmarked h u p
 
--- The answer g to a seal of u with n: u is sealed at n, and as long as no later epoch is in force, g is an edge of u.
-pub record SealAnswer (h : History) (u : UnitNo) (n : Epoch) (g : Pos) : Type 0 where
+-- Two facts of a unit. It is sealed at n: that stays.
+pub record SealedAt (h : History) (u : UnitNo) (n : Epoch) : Type 0 where
   pub sealed-at : n ≤ sealed h u
-  pub edge : held h .epoch ≤ n → Edge h u g
+
+-- As long as no later epoch than n is in force, g is an edge of u: that stays of a unit that is sealed at n.
+pub record EdgeAt (h : History) (u : UnitNo) (n : Epoch) (g : Pos) : Type 0 where
+  pub edge-at : held h .epoch ≤ n → Edge h u g

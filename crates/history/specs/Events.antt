@@ -2,11 +2,10 @@
 -- Rests on Words, Maps and History.
 use mathlib.Core.Path.{_≡_}
 use Prim.Native.Nat.{suc, _≤_, _<_}
-use Rattle.history.specs.Words.{UnitNo, Pos, Epoch, Page, Before}
+use Rattle.history.specs.Words.{UnitNo, Pos, Epoch, Before}
 use Rattle.history.specs.Maps.{Map, Has, Serves, Good, Renewed, Successor}
-use Rattle.history.specs.History.{Event, History, Noted, PageNoted, Laid, Mark, Marked, MarkedBy, Unmarked, held, sealed}
-use Rattle.history.specs.History.Note.{trimAt, pruneTo}
-use Rattle.history.specs.History.Event.{ask, write, trim, prune, seal, install}
+use Rattle.history.specs.History.{Stretch, Covers, Event, History, MarkNoted, Laid, Mark, Marked, MarkedBy, Unmarked, held, sealed}
+use Rattle.history.specs.History.Event.{ask, mark, seal, install}
 use Rattle.history.specs.History.History.{fresh, _▹_}
 use Rattle.history.specs.History.Mark.{page, gone}
 
@@ -18,24 +17,26 @@ pub record Takes (h : History) (u : UnitNo) (L : Map) : Type 0 where
   pub has : Has L u
   pub unsealed : sealed h u < L .epoch
 
--- Only where nothing is written or trimmed. Head to tail: each unit before u in p's set has the same page already.
-pub record MayWrite (h : History) (u : UnitNo) (L : Map) (p : Pos) (X : Page) : Type 0 where
-  pub takes : Takes h u L
-  pub unmarked : Unmarked h u p
-  pub above : (v : UnitNo) → Before v u (L .set p) → MarkedBy h v p (page X) (L .epoch)
-  pub asked : PageNoted h p X
+-- What a client has seen to that asks u for the mark m at ps in epoch e. It goes by a layout that was in force at some time, and u is of it.
+-- Head to tail: at each position every unit before u in the set has m already. And m was asked for.
+pub record Walked (h : History) (u : UnitNo) (e : Epoch) (ps : Stretch) (m : Mark) : Type 0 where
+  pub by : Map
+  pub laid : Laid h by
+  pub epoch-is : by .epoch ≡ e
+  pub has : Has by u
+  pub above : (p : Pos) → Covers ps p → (v : UnitNo) → Before v u (by .set p) → MarkedBy h v p m e
+  pub asked : (p : Pos) → Covers ps p → MarkNoted h p m
 
--- Of any position, written or not, trimmed or not. Head to tail too.
-pub record MayTrim (h : History) (u : UnitNo) (L : Map) (p : Pos) : Type 0 where
-  pub takes : Takes h u L
-  pub above : (v : UnitNo) → Before v u (L .set p) → MarkedBy h v p gone (L .epoch)
-  pub asked : Noted h (trimAt p)
+-- A page is taken only where nothing is written or trimmed; a position goes, written or not, trimmed or not.
+abbrev pub Free : History → UnitNo → Pos → Mark → Type 0
+Free h u p (page X) = Unmarked h u p
+Free h u p gone = Unit {0}
 
--- Above the floor or not. Every unit of the layout in rising number.
-pub record MayPrune (h : History) (u : UnitNo) (L : Map) (q : Pos) : Type 0 where
-  pub takes : Takes h u L
-  pub above : (v : UnitNo) → Before v u (L .units) → (p : Pos) → p < q → MarkedBy h v p gone (L .epoch)
-  pub asked : Noted h (pruneTo q)
+-- The client has walked to u, and u sees to the rest.
+pub record MayMark (h : History) (u : UnitNo) (e : Epoch) (ps : Stretch) (m : Mark) : Type 0 where
+  pub walked : Walked h u e ps m
+  pub takes : Takes h u (walked .by)
+  pub free : (p : Pos) → Covers ps p → Free h u p m
 
 -- Any unit, of the layout in force or of none, and also again with the same epoch: one that is, or once was, in force.
 pub record MaySeal (h : History) (u : UnitNo) (n : Epoch) : Type 0 where
@@ -64,9 +65,7 @@ pub record MayInstall (h : History) (L : Map) : Type 0 where
 -- anything may be asked for at any time
 abbrev pub May : History → Event → Type 0
 May h (ask w) = Unit {0}
-May h (write u L p X) = MayWrite h u L p X
-May h (trim u L p) = MayTrim h u L p
-May h (prune u L q) = MayPrune h u L q
+May h (mark u e ps m) = MayMark h u e ps m
 May h (seal u n) = MaySeal h u n
 May h (install L) = MayInstall h L
 

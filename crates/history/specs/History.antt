@@ -17,15 +17,30 @@ pub data Note : Type 0 where
   trimAt : Pos → Note
   pruneTo : Pos → Note
 
+-- What a unit has, or once had, at a position: a page, or that it is gone (trimmed, or below the floor).
+-- A page that is trimmed later keeps its mark beside the new one.
+pub data Mark : Type 0 where
+  page : Page → Mark
+  gone : Mark
+
+-- the positions at which a unit takes a mark at once: one, or all below one
+pub data Stretch : Type 0 where
+  only : Pos → Stretch
+  upTo : Pos → Stretch
+
+-- p is one of them
+pub data Covers : Stretch → Pos → Type 0 where
+  covers-only : {p : Pos} → Covers (only p) p
+  covers-upTo : {p q : Pos} → p < q → Covers (upTo q) p
+
 -- `ask w`: a client is asked for w.
--- `write u L p X`: the unit u takes page X at position p, from a client that goes by the layout L. Trim and prune likewise.
+-- `mark u e ps m`: in epoch e the unit u takes the mark m at the positions ps. A write marks its position with the page, a trim its own as gone,
+-- a prune all below its own.
 -- `seal u n`: the unit u is sealed at n. `install L`: the holder installs L.
 -- All else that happens in a yard changes nothing here: a refusal, an answer, a read, a letter lost, a unit that stops.
 pub data Event : Type 0 where
   ask : Note → Event
-  write : UnitNo → Map → Pos → Page → Event
-  trim : UnitNo → Map → Pos → Event
-  prune : UnitNo → Map → Pos → Event
+  mark : UnitNo → Epoch → Stretch → Mark → Event
   seal : UnitNo → Epoch → Event
   install : Map → Event
 
@@ -48,10 +63,12 @@ pub data Noted : History → Note → Type 0 where
   noted-now : {h : History} {w : Note} → Noted (h ▹ ask w) w
   noted-before : {h : History} {ev : Event} {w : Note} → Noted h w → Noted (h ▹ ev) w
 
--- the page X at p was asked for: an append asked for X, or X is junk and a fill asked for junk at p
-pub data PageNoted (h : History) (p : Pos) : Page → Type 0 where
-  by-append : {X : Page} → Noted h (append X) → PageNoted h p X
-  by-fill : Noted h (fillAt p) → PageNoted h p junk
+-- The mark m at p was asked for: a page by an append of it, junk also by a fill of p; gone by a trim of p, or by a prune above p.
+pub data MarkNoted (h : History) (p : Pos) : Mark → Type 0 where
+  by-append : {X : Page} → Noted h (append X) → MarkNoted h p (page X)
+  by-fill : Noted h (fillAt p) → MarkNoted h p (page junk)
+  by-trim : Noted h (trimAt p) → MarkNoted h p gone
+  by-prune : {q : Pos} → p < q → Noted h (pruneTo q) → MarkNoted h p gone
 
 -- the layout L is, or once was, in force
 pub data Laid : History → Map → Type 0 where
@@ -59,17 +76,9 @@ pub data Laid : History → Map → Type 0 where
   laid-now : {h : History} {L : Map} → Laid (h ▹ install L) L
   laid-before : {h : History} {ev : Event} {L : Map} → Laid h L → Laid (h ▹ ev) L
 
--- What a unit has, or once had, at a position: a page, or that it is gone (trimmed, or below the floor).
--- A page that is trimmed later keeps its mark beside the new one.
-pub data Mark : Type 0 where
-  page : Page → Mark
-  gone : Mark
-
 -- in epoch a, the unit u took the mark m at position p
 pub data Marked : History → UnitNo → Pos → Mark → Epoch → Type 0 where
-  marked-write : {h : History} {u : UnitNo} {L : Map} {p : Pos} {X : Page} → Marked (h ▹ write u L p X) u p (page X) (L .epoch)
-  marked-trim : {h : History} {u : UnitNo} {L : Map} {p : Pos} → Marked (h ▹ trim u L p) u p gone (L .epoch)
-  marked-prune : {h : History} {u : UnitNo} {L : Map} {p q : Pos} → p < q → Marked (h ▹ prune u L q) u p gone (L .epoch)
+  marked-now : {h : History} {u : UnitNo} {e : Epoch} {ps : Stretch} {p : Pos} {m : Mark} → Covers ps p → Marked (h ▹ mark u e ps m) u p m e
   marked-before : {h : History} {ev : Event} {u : UnitNo} {p : Pos} {m : Mark} {a : Epoch} → Marked h u p m a → Marked (h ▹ ev) u p m a
 
 -- the same, in epoch e or an earlier one
@@ -86,9 +95,7 @@ Unmarked h u p = (m : Mark) (a : Epoch) → ¬ Marked h u p m a
 unfoldable pub held : History → Map
 held (fresh L) = L
 held (h ▹ ask w) = held h
-held (h ▹ write u L p X) = held h
-held (h ▹ trim u L p) = held h
-held (h ▹ prune u L q) = held h
+held (h ▹ mark u e ps m) = held h
 held (h ▹ seal u n) = held h
 held (h ▹ install L) = L
 
@@ -96,8 +103,6 @@ held (h ▹ install L) = L
 unfoldable pub sealed : History → UnitNo → Epoch
 sealed (fresh L) u = 0
 sealed (h ▹ ask w) u = sealed h u
-sealed (h ▹ write v L p X) u = sealed h u
-sealed (h ▹ trim v L p) u = sealed h u
-sealed (h ▹ prune v L q) u = sealed h u
+sealed (h ▹ mark v e ps m) u = sealed h u
 sealed (h ▹ seal v n) u = cond (eqb v u) n (sealed h u)
 sealed (h ▹ install L) u = sealed h u

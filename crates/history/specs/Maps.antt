@@ -19,9 +19,8 @@ Has L u = u ∈ L .units
 abbrev pub Serves : Map → Pos → UnitNo → Type 0
 Serves L p u = u ∈ L .set p
 
--- What a good layout gives: units rise in the unit section and inside each set, and the units of a set are in the unit section.
+-- What a good layout gives: units rise inside each set, and the units of a set are in the unit section.
 pub record Good (L : Map) : Type 0 where
-  pub units-rise : Rising (L .units)
   pub set-rises : (p : Pos) → Rising (L .set p)
   pub set-within : (p : Pos) (u : UnitNo) → Serves L p u → Has L u
 

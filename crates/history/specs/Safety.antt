@@ -1,12 +1,10 @@
 -- Demand 3 over histories: what reads return, whatever may happen. `proofs/Safety` proves it of every run (`safe`).
 -- Rests on Words, Maps, History and Events.
 use mathlib.Core.Path.{_≡_}
-use Prim.Native.Nat.{_<_}
 use Rattle.history.specs.Words.{UnitNo, Pos, Epoch, Page, Answer, Last}
 use Rattle.history.specs.Words.Answer.{shows, trimmed, unwritten}
 use Rattle.history.specs.Maps.{Map, Serves}
-use Rattle.history.specs.History.{History, _⊑_, Noted, PageNoted, Laid, Mark, Marked, MarkedBy, Unmarked, held}
-use Rattle.history.specs.History.Note.{trimAt, pruneTo}
+use Rattle.history.specs.History.{History, _⊑_, MarkNoted, Laid, Mark, Marked, MarkedBy, Unmarked, held}
 use Rattle.history.specs.History.Mark.{page, gone}
 use Rattle.history.specs.Events.{Takes}
 
@@ -30,15 +28,10 @@ pub record Settled (h : History) (L : Map) (p : Pos) (m : Mark) : Type 0 where
   pub laid : Laid h L
   pub all : (u : UnitNo) → Serves L p u → MarkedBy h u p m (L .epoch)
 
--- a trim or a prune that covers p was asked for
-pub data GoneAsked (h : History) (p : Pos) : Type 0 where
-  by-trim : Noted h (trimAt p) → GoneAsked h p
-  by-prune : {q : Pos} → p < q → Noted h (pruneTo q) → GoneAsked h p
-
 -- what a read of p may answer at h, once X is settled there: never "unwritten", and never another page
 pub data After (h : History) (p : Pos) (X : Page) : Answer → Type 0 where
   that-page : After h p X (shows X)
-  trim-asked : GoneAsked h p → After h p X trimmed
+  trim-asked : MarkNoted h p gone → After h p X trimmed
 
 -- ---- the statement
 
@@ -47,7 +40,7 @@ pub record Safe (h : History) : Type 0 where
   pub reads-agree : {h₁ h₂ : History} {L₁ L₂ : Map} {p : Pos} {X Y : Page} →
       h₁ ⊑ h → h₂ ⊑ h → Read h₁ L₁ p (shows X) → Read h₂ L₂ p (shows Y) → X ≡ Y
   -- A page that is read was asked for before: by an append, or by a fill of that position.
-  pub read-asked : {h₁ : History} {L : Map} {p : Pos} {X : Page} → h₁ ⊑ h → Read h₁ L p (shows X) → PageNoted h₁ p X
+  pub read-asked : {h₁ : History} {L : Map} {p : Pos} {X : Page} → h₁ ⊑ h → Read h₁ L p (shows X) → MarkNoted h₁ p (page X)
   -- Once an append of X at p is done, a read of p under the layout in force returns X, or "trimmed" if a trim or prune of p was asked for.
   pub after-done : {h₁ h₂ : History} {L₁ L₂ : Map} {p : Pos} {X : Page} {r : Answer} →
       h₁ ⊑ h₂ → h₂ ⊑ h → Settled h₁ L₁ p (page X) → Read h₂ L₂ p r → L₂ .epoch ≡ held h₂ .epoch → After h₂ p X r

@@ -15,7 +15,7 @@ use Rattle.layout.specs.declared.Chain.{Chain}
 use Rattle.layout.specs.Lay.{setLimit}
 use Rattle.layout.specs.Value.{unitsIn}
 use Rattle.layout.specs.Codec.{counted}
-use Rattle.layout.specs.Growing.{grown}
+use Rattle.layout.specs.InsideGrowing.{grown}
 use Rattle.layout.proofs.Fronts.{clipped, clipped-count}
 use Rattle.layout.proofs.Same.{front-step, front-end}
 

@@ -29,3 +29,4 @@ pub mod Same
 pub mod Writing
 pub mod Rounds
 pub mod Scanning
+pub mod Unique

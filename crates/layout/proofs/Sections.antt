@@ -13,7 +13,7 @@ use Rattle.layout.specs.declared.encoded.Encoded.{Encoded}
 use Rattle.layout.specs.Lay.{inSets, usedFrom, unitsOf}
 use Rattle.layout.specs.Value.{unitsIn, spanIn}
 use Rattle.layout.specs.Codec.{counted, setsBytes, spanBytes, spansBytes}
-use Rattle.layout.specs.Growing.{grown}
+use Rattle.layout.specs.InsideGrowing.{grown}
 use Rattle.layout.proofs.Fronts.{front-more, front-over}
 use Rattle.layout.proofs.Growing.{Put, put-next, put-more, put-all}
 

@@ -15,7 +15,7 @@ use Rattle.layout.specs.declared.encoded.Encoded.{Encoded}
 use Rattle.layout.specs.Lay.{good}
 use Rattle.layout.specs.Value.{layOf, valueOf, blank, goodValue}
 use Rattle.layout.specs.Codec.{encode, decode, same, isLayout, readLayout, LayoutRead, bytesOf, sizeLimit, writeRefused, LayoutWritten}
-use Rattle.layout.specs.Growing.{grown, nothing}
+use Rattle.layout.specs.InsideGrowing.{grown, nothing}
 use Rattle.layout.proofs.Padding.{padded-front, sets-padded}
 use Rattle.layout.proofs.Values.{good-value, lay-of-value}
 

@@ -1,4 +1,4 @@
--- A layout as bytes: sections in fixed order, each after its one-byte count.
+-- A layout as bytes: sections in fixed order, each after its one-byte count (docs/RULES.md, 5.1).
 use Prim.Native.Nat.{ℕ, zero, suc, _+_}
 use mathlib.Core.Bool.{Bool, true, false, _&&_, _||_, not, cond}
 use mathlib.Core.List.{List, [], _∷_, _++_, map}

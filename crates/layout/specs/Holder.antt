@@ -1,4 +1,4 @@
--- The layout holder: it installs a lawful successor only with held epoch plus 1, so two reorganisers cannot both win.
+-- The layout holder: it installs a lawful successor only with held epoch plus 1, so two reorganisers cannot both win (docs/RULES.md, 6).
 use Prim.Native.Nat.{ℕ, _+_}
 use mathlib.Core.Bool.{_&&_, not, cond}
 use mathlib.Core.List.{List, [], _∷_}

@@ -1,10 +1,11 @@
--- A layout as the paper speaks of it, and when it is good.
+-- A layout as docs/RULES.md, 5, speaks of it, and when it is good.
 use Prim.Native.Nat.{ℕ, zero, suc, _+_}
 use mathlib.Core.Bool.{Bool, true, false, _&&_, _||_, cond}
 use mathlib.Core.List.{List, [], _∷_}
 use lib.Dec.{leb, ltb, eqb}
 use lib.ListN.{length}
 use Rattle.num.specs.Limits.{limit, lastEpoch}
+pub use Rattle.num.specs.Limits.{unitLimit}
 
 -- a range: its start, and how many sets it uses
 pub record Span : Type 0 where
@@ -19,9 +20,6 @@ pub record Lay : Type 0 where
   pub spans : List Span
 
 -- ---- limits
-
-abbrev pub unitLimit : ℕ
-unitLimit = 8
 
 -- shapes are 0 and 1; any other is unknown
 abbrev pub lastShape : ℕ

@@ -5,5 +5,4 @@ pub mod Places
 pub mod Successor
 pub mod Plan
 pub mod Holder
-pub mod Growing
-pub mod Unique
+pub mod InsideGrowing

@@ -1,4 +1,4 @@
--- Where a position belongs.
+-- Where a position belongs (docs/RULES.md, 5.3).
 use Prim.Native.Nat.{ℕ, _+_, _-_, _%_}
 use mathlib.Core.Bool.{not, cond}
 use mathlib.Core.List.{List, [], _∷_}

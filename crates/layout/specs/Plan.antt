@@ -1,4 +1,4 @@
--- What a reorganise makes of a layout: units to drop, and new sets if wanted.
+-- What a reorganise makes of a layout: units to drop, and new sets if wanted (docs/RULES.md, 8.3).
 use Prim.Native.Nat.{ℕ, _+_, _-_, max}
 use mathlib.Core.Bool.{Bool, true, false, _&&_, _||_, not, cond}
 use mathlib.Core.List.{List, [], _∷_, _++_, map}
@@ -97,7 +97,7 @@ goodChains (c ∷ cs) = goodSet (unitsIn c) && tidyChain c && goodChains cs
 abbrev pub goodWish : Wish → Bool
 goodWish w = goodChains (take (w .count) (w .sets))
 
--- 10 where the held layout is not good, and then the checks in the paper's order
+-- 10 where the held layout is not good, and then the checks in the order of docs/RULES.md, 8.3
 unfoldable pub reorganiseAnswer : Layout → List ℕ → Wish → ℕ
 reorganiseAnswer held drops w = lowest (10 if not (goodValue held) ∷ planChecks (layOf held) drops (goodWish w) (newOf w))
 

@@ -1,5 +1,5 @@
 -- A lawful successor: the same shape, the same starts and set numbers, each old set replaced by a non-empty sublist of itself;
--- then at most one more range, starting above the last old start.
+-- then at most one more range, starting above the last old start (docs/RULES.md, 5.4).
 use Prim.Native.Nat.{ℕ}
 use mathlib.Core.Bool.{Bool, true, false, _&&_, _||_, cond}
 use mathlib.Core.List.{List, [], _∷_}

@@ -8,7 +8,7 @@ ghost use Rattle.num.specs.Bytes.{leBytes};
 ghost use Rattle.layout.specs.Lay.{unitsOf};
 ghost use Rattle.layout.specs.Value.{layOf, unitsIn, spanIn};
 ghost use Rattle.layout.specs.Codec.{counted, setsBytes, spanBytes, spansBytes, sizeLimit, bytesOf};
-ghost use Rattle.layout.specs.Growing.{grown, nothing};
+ghost use Rattle.layout.specs.InsideGrowing.{grown, nothing};
 use crate::Chain;
 use crate::Layout;
 use crate::Range;

@@ -7,3 +7,4 @@ pub mod Putting
 pub mod Sizes
 pub mod Fitting
 pub mod Examples
+pub mod Unique

@@ -5,3 +5,4 @@ pub mod Telling
 pub mod Laying
 pub mod Reading
 pub mod Running
+pub mod Unique

@@ -8,7 +8,7 @@ use Rattle.marked.specs.declared.ask.Ask.{Ask}
 use Rattle.marked.specs.declared.ask.Row.{Row}
 use Rattle.marked.specs.Lays.{told}
 use Rattle.marked.specs.Table.{rows, count}
-use Rattle.marked.specs.Numbers.{numbersOf, askOf}
+use Rattle.marked.specs.InsideNumbers.{numbersOf, askOf}
 use Rattle.marked.specs.Marked.{blank}
 
 abbrev rowOf : List ℕ → Row

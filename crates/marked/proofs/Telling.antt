@@ -1,18 +1,20 @@
 -- From what a unit's function promises to what a row is told.
 use Prim.Native.Nat.{ℕ, _+_}
 use mathlib.Core.Bool.{cond}
-use mathlib.Core.List.{List, []}
+use mathlib.Core.List.{List}
 use mathlib.Core.Path.{_≡_, refl, _∙_}
 use native.Mathlib.Numerals.{add-one}
 use lib.Dec.{eqb}
 use Rattle.num.specs.Bytes.{numberAt}
 use Rattle.num.specs.declared.Epoch.{Epoch}
 use Rattle.num.specs.declared.Position.{Position}
-use Rattle.unit.specs.Promises.{IsFresh, IsRead, IsWritten, IsTrimmed, IsPruned, IsSealed}
+use Rattle.unit.specs.State.{content}
+use Rattle.unit.specs.Unit.Request.{write, trim, prune}
+use Rattle.unit.specs.Promises.{IsFresh, IsAnswered, IsRead, IsSealed}
 use Rattle.marked.specs.declared.ask.Ask.the-variants.{Fresh, Write, Read, Trim, Prune, Seal, Fill, Floor, Place, Drop}
 use Rattle.marked.specs.declared.ask.Told.{Told}
 use Rattle.marked.specs.Lays.{told, placeTold, dropTold}
-use Rattle.marked.specs.Asks.{sevens, fillMemory, fillAnswer, toldOf, leftBy, IsTold, IsFilled}
+use Rattle.marked.specs.Asks.{sevens, dataAt, fillMemory, fillAnswer, toldOf, leftBy, IsTold, IsFilled}
 
 pub told-eq : {a a′ b b′ c c′ : ℕ} → a ≡ a′ → b ≡ b′ → c ≡ c′ → told a b c ≡ told a′ b′ c′
 told-eq p q r = rw (p, q, r)
@@ -22,16 +24,16 @@ module _ {m after : List ℕ} {answer : ℕ} {t : Told} where
   unfolding toldOf leftBy
   fresh-told x e = record { told-is = e ∙ told-eq (x .answer-is) refl refl; memory-is = x .memory-is }
 
-  pub write-told : {e : Epoch} {p : Position} {kind size : ℕ} → IsWritten m (e .0) (p .0) kind (sevens size) answer after → t ≡ told answer 0 0
+  pub write-told : {e : Epoch} {p : Position} {kind size : ℕ} → IsAnswered m (write e p (content kind (sevens size))) answer after → t ≡ told answer 0 0
       → IsTold m (Write e p kind size) t after
   unfolding toldOf leftBy
   write-told x e = record { told-is = e ∙ told-eq (x .answer-is) refl refl; memory-is = x .memory-is }
 
-  pub trim-told : {e : Epoch} {p : Position} → IsTrimmed m (e .0) (p .0) answer after → t ≡ told answer 0 0 → IsTold m (Trim e p) t after
+  pub trim-told : {e : Epoch} {p : Position} → IsAnswered m (trim e p) answer after → t ≡ told answer 0 0 → IsTold m (Trim e p) t after
   unfolding toldOf leftBy
   trim-told x e = record { told-is = e ∙ told-eq (x .answer-is) refl refl; memory-is = x .memory-is }
 
-  pub prune-told : {e : Epoch} {p : Position} → IsPruned m (e .0) (p .0) answer after → t ≡ told answer 0 0 → IsTold m (Prune e p) t after
+  pub prune-told : {e : Epoch} {p : Position} → IsAnswered m (prune e p) answer after → t ≡ told answer 0 0 → IsTold m (Prune e p) t after
   unfolding toldOf leftBy
   prune-told x e = record { told-is = e ∙ told-eq (x .answer-is) refl refl; memory-is = x .memory-is }
 
@@ -44,7 +46,7 @@ pub filled-none : (m : List ℕ) → IsFilled m 0 0 m
 unfolding fillAnswer fillMemory
 filled-none m = record { answer-is = refl; memory-is = refl }
 
-pub filled-more : {m after later : List ℕ} {p answer number r : ℕ} → IsFilled m p answer after → IsWritten after 1 p 1 [] number later
+pub filled-more : {m after later : List ℕ} {p answer number r : ℕ} → IsFilled m p answer after → IsAnswered after (dataAt p) number later
     → r ≡ cond (eqb answer 0) number answer → IsFilled m (p + 1) r later
 unfolding fillAnswer fillMemory
 filled-more {m} {p = p} f w e =
@@ -66,12 +68,12 @@ pub drop-told : {m : List ℕ} {a b k : ℕ} {t : Told} → t ≡ dropTold a b k
 unfolding toldOf leftBy
 drop-told e = record { told-is = e; memory-is = refl }
 
-pub read-told : {m : List ℕ} {e : Epoch} {p : Position} {answer kind start size a k : ℕ} → IsRead m (e .0) (p .0) answer kind start size
+pub read-told : {m : List ℕ} {e : Epoch} {p : Position} {answer kind start size a k : ℕ} → IsRead m e p answer kind start size
     → a ≡ answer → k ≡ kind → IsTold m (Read e p) (told a k size) m
 unfolding toldOf leftBy
-read-told x a k = record { told-is = told-eq (a ∙ x .answer-is) (k ∙ x .kind-is) (x .length-is); memory-is = refl }
+read-told x a k = record { told-is = told-eq (a ∙ x .answered .answer-is) (k ∙ x .kind-is) (x .length-is); memory-is = refl }
 
-pub seal-told : {m after : List ℕ} {n : Epoch} {answer edge a : ℕ} → IsSealed m (n .0) answer edge after → a ≡ answer
+pub seal-told : {m after : List ℕ} {n : Epoch} {answer edge a : ℕ} → IsSealed m n answer edge after → a ≡ answer
     → IsTold m (Seal n) (told a edge 0) after
 unfolding toldOf leftBy
-seal-told x a = record { told-is = told-eq (a ∙ x .answer-is) (x .edge-is) refl; memory-is = x .memory-is }
+seal-told x a = record { told-is = told-eq (a ∙ x .answered .answer-is) (x .edge-is) refl; memory-is = x .answered .memory-is }

@@ -12,19 +12,20 @@ use Rattle.num.specs.Checks.{lowest, _if_}
 use Rattle.num.proofs.Tests.{and-both}
 use Rattle.unit.specs.declared.shape.Shape.{Shape}
 use Rattle.unit.specs.Shape.{shapeFor, shapeOf, named, memorySize, unitLimit}
-use Rattle.unit.specs.State.{State}
+use Rattle.unit.specs.State.{State, content}
 use Rattle.unit.specs.Memory.{valid, decode, encode}
-use Rattle.unit.specs.Unit.{freshUnit, writeSays, written, writeUnit, readSays, readShows, trimSays, trimmedAt, trimUnit, pruneSays, prunedTo, pruneUnit, sealSays, sealTells, sealedAt, sealUnit}
-use Rattle.unit.specs.Rules.{freshAnswer, freshMemory, readAnswer, readPage, writeAnswer, writeMemory, trimAnswer, trimMemory, pruneAnswer, pruneMemory, sealAnswer, sealEdge, sealMemory}
+use Rattle.unit.specs.Unit.{Request, freshUnit, becomes, says, after, report}
+use Rattle.unit.specs.Unit.Request.{write, read, trim, prune, seal}
+use Rattle.unit.specs.Rules.{freshAnswer, freshMemory, answer, memory, reported}
 use Rattle.unit.proofs.Goodness.{is-good}
 use Rattle.unit.specs.Holding.{Holds}
 use Rattle.unit.proofs.Shapes.{sized, for-known, names-shape}
-use Rattle.unit.proofs.Holding.{encode-holds, write-says, read-says, read-shows, trim-says, prune-says, seal-says, seal-tells}
+use Rattle.unit.proofs.Holding.{encode-holds, says-held, report-held}
 use Rattle.marked.specs.declared.ask.Ask.{Ask}
 use Rattle.marked.specs.declared.ask.Ask.the-variants.{Fresh, Write, Read, Trim, Prune, Seal, Fill, Floor, Place, Drop}
 use Rattle.marked.specs.declared.ask.Told.{Told}
 use Rattle.marked.specs.Lays.{told, placeTold, dropTold}
-use Rattle.marked.specs.Asks.{sevens, fillMemory, fillAnswer, toldOf, leftBy}
+use Rattle.marked.specs.Asks.{sevens, dataAt, fillMemory, fillAnswer, toldOf, leftBy}
 
 abbrev freshNumber : ℕ → ℕ → ℕ
 freshNumber n code = lowest (10 if not (named code) ∷ 17 if not (leb 1 n && leb n unitLimit) ∷ [])
@@ -37,8 +38,8 @@ pub record Filled : Type 0 where
 
 abbrev fillNext : Shape → ℕ → Filled → Filled
 fillNext sh p f = record {
-  unit = writeUnit sh (f .unit) 1 p 1 [];
-  number = cond (eqb (f .number) 0) (writeSays sh (f .unit) 1 p 1 []) (f .number);
+  unit = after sh (f .unit) (dataAt p);
+  number = cond (eqb (f .number) 0) (says sh (f .unit) (dataAt p)) (f .number);
   all-valid = f .all-valid && valid sh (f .unit);
 }
 
@@ -48,11 +49,11 @@ filled sh u (suc n) = fillNext sh n (filled sh u n)
 
 unfoldable pub tells : Shape → State → Ask → Told
 tells sh u (Fresh n code) = told (freshNumber n code) 0 0
-tells sh u (Write e p kind size) = told (writeSays sh u (e .0) (p .0) kind (sevens size)) 0 0
-tells sh u (Read e p) = told (readSays u (e .0) (p .0)) (readShows u (e .0) (p .0) .kind) (length (readShows u (e .0) (p .0) .payload))
-tells sh u (Trim e p) = told (trimSays sh u (e .0) (p .0)) 0 0
-tells sh u (Prune e p) = told (pruneSays u (e .0) (p .0)) 0 0
-tells sh u (Seal n) = told (sealSays u (n .0)) (sealTells u (n .0)) 0
+tells sh u (Write e p kind size) = told (says sh u (write e p (content kind (sevens size)))) 0 0
+tells sh u (Read e p) = told (says sh u (read e p)) (report sh u (read e p) .page .kind) (length (report sh u (read e p) .page .payload))
+tells sh u (Trim e p) = told (says sh u (trim e p)) 0 0
+tells sh u (Prune e p) = told (says sh u (prune e p)) 0 0
+tells sh u (Seal n) = told (says sh u (seal n)) (report sh u (seal n) .edge) 0
 tells sh u (Fill n) = told (filled sh u n .number) 0 0
 tells sh u Floor = told 0 (u .floor) 0
 tells sh u (Place p) = placeTold (p .0)
@@ -60,11 +61,11 @@ tells sh u (Drop a b k) = dropTold a b k
 
 unfoldable pub next : Shape → State → Ask → State
 next sh u (Fresh n code) = cond (eqb (freshNumber n code) 0) (freshUnit n) u
-next sh u (Write e p kind size) = writeUnit sh u (e .0) (p .0) kind (sevens size)
+next sh u (Write e p kind size) = after sh u (write e p (content kind (sevens size)))
 next sh u (Read e p) = u
-next sh u (Trim e p) = trimUnit sh u (e .0) (p .0)
-next sh u (Prune e p) = pruneUnit u (e .0) (p .0)
-next sh u (Seal n) = sealUnit u (n .0)
+next sh u (Trim e p) = after sh u (trim e p)
+next sh u (Prune e p) = after sh u (prune e p)
+next sh u (Seal n) = after sh u (seal n)
 next sh u (Fill n) = filled sh u n .unit
 next sh u Floor = u
 next sh u (Place p) = u
@@ -132,29 +133,20 @@ module _ (c : ℕ) where
     unfolding freshMemory
     fresh-unit n code = rw (fresh-number n code) (encode-either (eqb (freshNumber n code) 0) code c (freshUnit n) u)
 
-    write-unit : (e p kind : ℕ) (bytes : List ℕ) → writeMemory (shapeOf (encode sh u)) (encode sh u) e p kind bytes ≡ encode sh (writeUnit sh u e p kind bytes)
-    unfolding writeMemory writeUnit
-    write-unit e p kind bytes =
-        rw (names, write-says sh fits held e p kind bytes, held .unit) (encode-cond sh (eqb (writeSays sh u e p kind bytes) 0) (written u p kind bytes) u)
+    module _ (r : Request) where
+      request-number : answer (shapeOf (encode sh u)) (encode sh u) r ≡ says sh u r
+      request-number = rw names (says-held held r)
 
-    trim-unit : (e p : ℕ) → trimMemory (shapeOf (encode sh u)) (encode sh u) e p ≡ encode sh (trimUnit sh u e p)
-    unfolding trimMemory trimUnit
-    trim-unit e p = rw (names, trim-says sh fits held e p, held .unit) (encode-cond sh (eqb (trimSays sh u e p) 0) (trimmedAt u p) u)
+      request-report : reported (shapeOf (encode sh u)) (encode sh u) r ≡ report sh u r
+      request-report = rw names (report-held held r)
 
-    prune-unit : (e p : ℕ) → pruneMemory (shapeOf (encode sh u)) (encode sh u) e p ≡ encode sh (pruneUnit u e p)
-    unfolding pruneMemory pruneUnit
-    prune-unit e p = rw (names, prune-says sh fits held e p, held .unit) (encode-cond sh (eqb (pruneSays u e p) 0) (prunedTo u p) u)
-
-    seal-unit : (n : ℕ) → sealMemory (shapeOf (encode sh u)) (encode sh u) n ≡ encode sh (sealUnit u n)
-    unfolding sealMemory sealUnit
-    seal-unit n = rw (names, seal-says sh fits held n, held .unit) (encode-cond sh (eqb (sealSays u n) 0) (sealedAt u n) u)
+      request-unit : memory (shapeOf (encode sh u)) (encode sh u) r ≡ encode sh (after sh u r)
+      unfolding memory after
+      request-unit = rw (names, says-held held r, held .unit) (encode-cond sh (eqb (says sh u r) 0) (becomes u r) u)
 
     floor-bytes : numberAt 8 8 (encode sh u) ≡ u .floor
     unfolding numberAt decode
     floor-bytes = rw size (ap (λ (w : State). w .floor) (held .unit))
-
-    write-number : (e p kind : ℕ) (bytes : List ℕ) → writeAnswer (shapeOf (encode sh u)) (encode sh u) e p kind bytes ≡ writeSays sh u e p kind bytes
-    write-number e p kind bytes = rw names (write-says sh fits held e p kind bytes)
 
   fill-unit : (u : State) (n : ℕ) → filled sh u n .all-valid ≡ true
       → (fillMemory (encode sh u) n ≡ encode sh (filled sh u n .unit)) × (fillAnswer (encode sh u) n ≡ filled sh u n .number)
@@ -164,16 +156,16 @@ module _ (c : ℕ) where
       let f = filled sh u n in
       let (a, b) = and-both (f .all-valid) (valid sh (f .unit)) h in
       let (m, k) = fill-unit u n a in
-      (rw m (write-unit (f .unit) b 1 n 1 []), rw (k, m, write-number (f .unit) b 1 n 1 []))
+      (rw m (request-unit (f .unit) b (dataAt n)), rw (k, m, request-number (f .unit) b (dataAt n)))
 
   pub tells-right : (u : State) → valid sh u ≡ true → (a : Ask) → sure sh u a ≡ true → toldOf (encode sh u) a ≡ tells sh u a
   unfolding toldOf tells sure
   tells-right u h (Fresh n code) s = rw (fresh-number u h n code)
-  tells-right u h (Write e p kind size) s = rw (write-number u h (e .0) (p .0) kind (sevens size))
-  tells-right u h (Read e p) s = rw (names u h, read-says sh fits (held u h) (e .0) (p .0), read-shows sh fits (held u h) (e .0) (p .0))
-  tells-right u h (Trim e p) s = rw (names u h, trim-says sh fits (held u h) (e .0) (p .0))
-  tells-right u h (Prune e p) s = rw (names u h, prune-says sh fits (held u h) (e .0) (p .0))
-  tells-right u h (Seal n) s = rw (names u h, seal-says sh fits (held u h) (n .0), seal-tells sh fits (held u h) (n .0))
+  tells-right u h (Write e p kind size) s = rw (request-number u h (write e p (content kind (sevens size))))
+  tells-right u h (Read e p) s = rw (request-number u h (read e p), request-report u h (read e p))
+  tells-right u h (Trim e p) s = rw (request-number u h (trim e p))
+  tells-right u h (Prune e p) s = rw (request-number u h (prune e p))
+  tells-right u h (Seal n) s = rw (request-number u h (seal n), request-report u h (seal n))
   tells-right u h (Fill n) s = rw (fill-unit u n s .1)
   tells-right u h Floor s = rw (floor-bytes u h)
   tells-right u h (Place p) s = refl
@@ -182,11 +174,11 @@ module _ (c : ℕ) where
   pub leaves-next : (u : State) → valid sh u ≡ true → (a : Ask) → sure sh u a ≡ true → leftBy (encode sh u) a ≡ encode (shapeFor (nextCode c a)) (next sh u a)
   unfolding leftBy next nextCode sure
   leaves-next u h (Fresh n code) s = fresh-unit u h n code
-  leaves-next u h (Write e p kind size) s = write-unit u h (e .0) (p .0) kind (sevens size)
+  leaves-next u h (Write e p kind size) s = request-unit u h (write e p (content kind (sevens size)))
   leaves-next u h (Read e p) s = refl
-  leaves-next u h (Trim e p) s = trim-unit u h (e .0) (p .0)
-  leaves-next u h (Prune e p) s = prune-unit u h (e .0) (p .0)
-  leaves-next u h (Seal n) s = seal-unit u h (n .0)
+  leaves-next u h (Trim e p) s = request-unit u h (trim e p)
+  leaves-next u h (Prune e p) s = request-unit u h (prune e p)
+  leaves-next u h (Seal n) s = request-unit u h (seal n)
   leaves-next u h (Fill n) s = fill-unit u n s .0
   leaves-next u h Floor s = refl
   leaves-next u h (Place p) s = refl

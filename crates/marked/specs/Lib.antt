@@ -1,5 +1,6 @@
 pub mod Lays
 pub mod Asks
 pub mod Table
-pub mod Numbers
+pub mod InsideNumbers
 pub mod Marked
+pub mod Answering

@@ -1,6 +1,6 @@
--- The paper's marked examples: what each row asks, and what must be answered. Examples 1 to 9 each start with a fresh unit 1, and stand once, for either shape.
+-- The marked examples of docs/RULES.md, 13: what each row asks, and what must be answered. Examples 1 to 9 each start with a fresh unit 1, and stand once, for either shape.
 -- 10 and 11 ask of a layout; a set's units are shown as a number, a byte each, lowest first.
--- An edge that the paper names is shown by a seal of the epoch at which the unit is sealed already.
+-- An edge that an example names is shown by a seal of the epoch at which the unit is sealed already.
 use Prim.Native.Nat.{ℕ, _+_, _*_, _-_}
 use mathlib.Core.List.{List, [], _∷_, _++_}
 use Rattle.num.specs.Limits.{limit}

@@ -30,7 +30,7 @@ pub struct Told {
 }
 
 pub struct Row {
-    // The paper's example that it belongs to.
+    // The example of docs/RULES.md, 13, that it belongs to.
     pub example: u64,
     pub asked: Ask,
     pub told: Told,

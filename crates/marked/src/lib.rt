@@ -1,7 +1,9 @@
-// The paper's marked examples, run against the code of a unit and of the layouts, row by row of the table.
+// The marked examples of docs/RULES.md, 13, run against the code of a unit and of the layouts, row by row of the table.
 ghost use mathlib.Core.Path.{_≡_};
-ghost use lib.ListN.{length};
+ghost use lib.ListN.{length, replicate};
+ghost use Rattle.marked.specs.Answering.{IsAnswered};
 use crate::ask::Row;
+use crate::ask::Told;
 use crate::row::row_at;
 use crate::show::show;
 use crate::tell::tell;
@@ -16,29 +18,43 @@ mod show;
 mod table;
 mod tell;
 
-// Asks every row in turn, and prints it; how many were not answered as expected. It is proved that none is.
-fn run(mem: &mut [u8]) -> u64
+// What the code told to each row in turn, and how many of them did not expect that.
+pub struct Answered {
+    pub told: [Told; Row::COUNT],
+    pub wrong: u64,
+}
+
+// Asks every row in turn, and prints it. It is proved that each is told what the rules say, and that none is wrong.
+fn run(mem: &mut [u8]) -> Answered
     requires { ⌜ length (now mem) ≡ 6168 ⌝ }
-    ensures { λ r. ⌜ r ≡ 0 ⌝ }
+    ensures { λ r. ⌜ IsAnswered (now (mem .entry)) r ⌝ }
 {
+    let none = Told {
+        answer: 0,
+        first: 0,
+        second: 0,
+    };
+    let mut told = [none; Row::COUNT];
     let mut wrong: u64 = 0;
     let mut k: usize = 0;
     while k < Row::COUNT {
         let row = row_at(k);
         let asked = row.asked;
         let got = tell(mem, asked);
+        told[k] = got;
         wrong += show(row, got);
         k += 1;
     }
-    wrong
+    Answered { told, wrong }
 }
 
-// Runs them all from a unit's memory of its own, and prints how many there were; how many were not answered as expected: none.
-pub fn wrong_rows() -> u64
-    ensures { λ r. ⌜ r ≡ 0 ⌝ }
+// Runs them all from a unit's memory of its own, and prints how many there were, and how many were not answered as expected: none.
+pub fn wrong_rows() -> Answered
+    ensures { λ r. ⌜ IsAnswered (replicate 6168 0) r ⌝ }
 {
     let mut mem = [0u8; Unit::SIZE];
-    let wrong = run(&mut mem);
+    let answered = run(&mut mem);
+    let wrong = answered.wrong;
     let rows = Row::COUNT as u64;
     number(rows);
     text(b" rows, ");
@@ -46,5 +62,5 @@ pub fn wrong_rows() -> u64
     text(b" as expected, ");
     number(wrong);
     text(b" NOT as expected\n");
-    wrong
+    answered
 }

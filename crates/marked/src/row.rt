@@ -3,7 +3,7 @@ ghost use mathlib.Core.Path.{_≡_};
 ghost use Prim.Native.Nat.{_%_, _^_, _<_};
 ghost use lib.ListN.{getD};
 ghost use Rattle.marked.specs.Table.{rows, count};
-ghost use Rattle.marked.specs.Numbers.{askOf};
+ghost use Rattle.marked.specs.InsideNumbers.{askOf};
 ghost use Rattle.marked.specs.Marked.{blank};
 use crate::ask::Ask;
 use crate::ask::Row;

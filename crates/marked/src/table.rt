@@ -1,7 +1,7 @@
-// The paper's marked examples.
+// The marked examples of docs/RULES.md, 13.
 ghost use mathlib.Core.Path.{_≡_};
 ghost use Rattle.marked.specs.Table.{rows};
-ghost use Rattle.marked.specs.Numbers.{numbersOf};
+ghost use Rattle.marked.specs.InsideNumbers.{numbersOf};
 use crate::ask::Row;
 use num::Position;
 

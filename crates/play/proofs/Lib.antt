@@ -4,3 +4,4 @@ pub mod Reading
 pub mod Running
 pub mod Telling
 pub mod Chunks
+pub mod Unique

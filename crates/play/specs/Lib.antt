@@ -2,4 +2,3 @@ pub mod Fit
 pub mod Text
 pub mod Shown
 pub mod Going
-pub mod Unique

@@ -1,16 +1,14 @@
 -- To whom a letter is brought: an answer to the client that it names and to no other, and nothing to a unit that has stopped.
-use mathlib.Core.Path.{_≡_, refl, sym, ap, subst}
-use mathlib.Core.Bool.{Bool, true, false, _||_, not, cond, or-true}
+use mathlib.Core.Path.{_≡_, refl, sym, subst}
+use mathlib.Core.Bool.{Bool, true, false, not, cond, or-true}
 use mathlib.Core.List.{List, _++_}
 use native.Mathlib.Omega.{arith}
 use lib.ListN.{getD}
 use lib.Seq.{getD-set-other}
 use Prim.Native.Nat.{ℕ, _-_, _≤_}
 use Rattle.num.proofs.Tests.{and-false}
-use Rattle.num.specs.declared.Epoch.{Epoch}
-use Rattle.num.specs.declared.Position.{Position}
-use Rattle.client.specs.declared.Ask.{Ask}
-use Rattle.client.specs.declared.Ask.the-variants.{Write, Read, Trim, Prune, Seal}
+use Rattle.client.specs.declared.UnitAsk.{UnitAsk}
+use Rattle.client.specs.declared.Ask.the-variants.{Unit}
 use Rattle.client.specs.declared.Reply.{Reply}
 use Rattle.client.specs.declared.turn.Turn.{Turn}
 use Rattle.client.specs.Client.{fresh}
@@ -19,7 +17,6 @@ use Rattle.rule.specs.declared.Body.{Body}
 use Rattle.rule.specs.declared.Body.the-variants.{Asks, Answers}
 use Rattle.rule.specs.declared.Letter.{Letter}
 use Rattle.rule.specs.World.{World, isClient, isUnit, running, clientAt, letterAt}
-use Rattle.rule.specs.Serve.{unserved}
 use Rattle.rule.specs.Steps.{Done, refused, keeping, tooMany, sentBy, turned, taken, unbrought, brought, delivered, delivers, response}
 use Rattle.rule.proofs.Lists.{client-range}
 
@@ -61,28 +58,13 @@ others-spared w i keep keepAnswer r is d from other =
 
 -- ---- a unit that has stopped
 
--- a request at the unit u
-pub data AsksUnit (u : ℕ) : Ask → Type 0 where
-  writes : {e : Epoch} {p : Position} → AsksUnit u (Write u e p)
-  reads : {e : Epoch} {p : Position} → AsksUnit u (Read u e p)
-  trims : {e : Epoch} {p : Position} → AsksUnit u (Trim u e p)
-  prunes : {e : Epoch} {p : Position} → AsksUnit u (Prune u e p)
-  seals : {e : Epoch} → AsksUnit u (Seal u e)
-
 not-running : (stopped : List Bool) (u : ℕ) → getD stopped (u - 1) true ≡ true → running stopped u ≡ false
 not-running stopped u e = rw (e, and-false (isUnit u))
 
-stopped-unserved : (stopped : List Bool) (u : ℕ) (a : Ask) → AsksUnit u a → getD stopped (u - 1) true ≡ true → unserved stopped a ≡ true
-stopped-unserved stopped u (Write _ e p) writes is = ap not (not-running stopped u is)
-stopped-unserved stopped u (Read _ e p) reads is = ap not (not-running stopped u is)
-stopped-unserved stopped u (Trim _ e p) trims is = ap not (not-running stopped u is)
-stopped-unserved stopped u (Prune _ e p) prunes is = ap not (not-running stopped u is)
-stopped-unserved stopped u (Seal _ e) seals is = ap not (not-running stopped u is)
-
-pub stopped-silent : (w : World) (i : ℕ) (keep keepAnswer : Bool) (u : ℕ) (a : Ask) → letterAt w i .body ≡ Asks a → AsksUnit u a → getD (w .stopped) (u - 1) true ≡ true
+pub stopped-silent : (w : World) (i : ℕ) (keep keepAnswer : Bool) (u : ℕ) (a : UnitAsk) → letterAt w i .body ≡ Asks (Unit u a) → getD (w .stopped) (u - 1) true ≡ true
     → delivers w i keep keepAnswer ≡ refused w 17
 unfolding delivers delivered
-stopped-silent w i keep keepAnswer u a is at stopped =
+stopped-silent w i keep keepAnswer u a is stopped =
     subst (λ (b : Body). cond (unbrought w l b) (refused w 17) (brought w ls keepAnswer l b) ≡ refused w 17) (sym is) refused-so
   where
     l : Letter
@@ -91,5 +73,5 @@ stopped-silent w i keep keepAnswer u a is at stopped =
     ls : List Letter
     ls = keeping keep i (w .letters)
 
-    refused-so : cond (unbrought w l (Asks a)) (refused w 17) (brought w ls keepAnswer l (Asks a)) ≡ refused w 17
-    refused-so = rw (stopped-unserved (w .stopped) u a at stopped, or-true)
+    refused-so : cond (unbrought w l (Asks (Unit u a))) (refused w 17) (brought w ls keepAnswer l (Asks (Unit u a))) ≡ refused w 17
+    refused-so = rw (not-running (w .stopped) u stopped, or-true)

@@ -1,8 +1,8 @@
 -- A client that restarts: its operation is forgotten, its life is one more, and its numbers are unused again.
-use mathlib.Core.Path.{_≡_, refl, ap, _∙_}
+use mathlib.Core.Path.{_≡_, refl, _∙_}
 use mathlib.Core.Bool.{Bool, true, false, not, cond}
 use native.Mathlib.Omega.{arith}
-use borrow.Author.Tests.{eqb-true, eqb-false, not-false}
+use borrow.Author.Tests.{eqb-true, eqb-false, leb-false, not-false}
 use lib.Dec.{eqb, leb}
 use lib.ListN.{length}
 use Prim.Native.Nat.{ℕ, _+_}
@@ -11,6 +11,7 @@ use Rattle.client.specs.declared.Client.{Client}
 use Rattle.client.specs.declared.state.Job.{Job}
 use Rattle.client.specs.Client.{fresh, idle, lastLife}
 use Rattle.client.specs.Begin.{restartAnswer, restarted}
+use Rattle.client.proofs.Clients.{restarted-cases}
 use Rattle.rule.specs.declared.Step.the-variants.{Restart}
 use Rattle.rule.specs.World.{World, isClient, clientAt}
 use Rattle.rule.specs.Steps.{fine, refused, withClient, restartNumber, restarts, step}
@@ -21,8 +22,8 @@ abbrev pub reborn : Client → Client
 reborn c = idle (c .life + 1) (record { 0 = 0 })
 
 restarted-is : (c : Client) → restartAnswer c ≡ 0 → restarted c ≡ reborn c
-unfolding restartAnswer restarted
-restarted-is c e = ap (λ b. cond b c (reborn c)) (cond-zero (leb lastLife (c .life)) 19 0 (omega arith) e .0)
+restarted-is c e =
+    restarted-cases (λ (x : Client). x ≡ reborn c) c (λ last. absurd (omega (arith, leb-false lastLife (c .life) (cond-zero (leb lastLife (c .life)) 19 0 (omega arith) e .0)))) (λ next. refl)
 
 pub restarts-anew : (w : World) (c : ℕ) (j : Job) → length (w .clients) ≡ 4 → step w (Restart c) j .answer ≡ 0 → clientAt (step w (Restart c) j .world) c ≡ reborn (clientAt w c)
 unfolding step restarts restartNumber

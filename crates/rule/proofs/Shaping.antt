@@ -3,19 +3,22 @@ use mathlib.Core.Path.{_≡_, refl}
 use mathlib.Core.Bool.{Bool, true, false, _&&_, cond}
 use mathlib.Core.List.{List, _++_}
 use native.Mathlib.Omega.{arith}
-use borrow.Author.Tests.{eqb-true}
+use borrow.Author.Tests.{eqb-true, ltb-false, le-ltb}
 use lib.Dec.{eqb, ltb}
-use lib.ListN.{set}
-use Prim.Native.Nat.{ℕ, _-_}
+use lib.ListN.{length, set}
+use Prim.Native.Nat.{ℕ, _-_, _≤_}
 use Rattle.num.proofs.Tests.{and-both, cond-zero}
 use Rattle.layout.specs.declared.Layout.{Layout}
 use Rattle.layout.proofs.Holding.{shape-stays}
 use Rattle.unit.specs.Shape.{large, small, shapeFor, shapeOf}
 use Rattle.unit.specs.Memory.{good, numberOf, codeOf}
+use Rattle.unit.specs.Kinds.{dataKind}
+use Rattle.unit.specs.State.{content}
 use Rattle.unit.specs.Unit.{badPage}
+use Rattle.unit.proofs.Questions.{data-page, data-bytes}
 use Rattle.unit.proofs.Shapes.{good-code}
 use Rattle.client.specs.declared.Ask.{Ask}
-use Rattle.client.specs.declared.Ask.the-variants.{Fetch, Token, Write, Read, Trim, Prune, Seal, Offer, Start}
+use Rattle.client.specs.declared.Ask.the-variants.{Fetch, Token, Unit, Offer, Start}
 use Rattle.client.specs.declared.Page.{Page}
 use Rattle.client.specs.declared.Work.the-variants.{Append}
 use Rattle.client.specs.declared.state.Job.{Job}
@@ -43,16 +46,18 @@ data-cap shape = go (eqb shape 1)
     go true = refl
     go false = refl
 
--- so no unit of the yard refuses an append's page with 3 once it began
-pub begin-fits : (w : World) (c : ℕ) (j : Job) → j .work ≡ Append → beginNumber w c j ≡ 0 → badPage (shapeUnder (w .held)) 1 (j .len) ≡ false
-begin-fits w c j is e =
+pub begin-short : (w : World) (c : ℕ) (j : Job) → j .work ≡ Append → beginNumber w c j ≡ 0 → j .len ≤ shapeUnder (w .held) .cap
+begin-short w c j is e =
     let shape = w .held .shape in
     let asked = begin-fine w c j e .1 in
     let page = cond-zero (past (j .work)) 2 (cond (tooLong (j .work) (j .len) shape) 3 0) (omega arith) asked .1 in
     let short : tooLong (j .work) (j .len) shape ≡ false = cond-zero (tooLong (j .work) (j .len) shape) 3 0 (omega arith) page .0 in
     let fits : ltb (dataLimit shape) (j .len) ≡ false = rw is at short in
-    let takes : ltb (shapeFor shape .cap) (j .len) ≡ false = rw (data-cap shape) at fits in
-    rw takes
+    ltb-false (shapeFor shape .cap) (j .len) (rw (data-cap shape) at fits)
+
+-- so no unit of the yard refuses an append's page with 3 once it began
+pub begin-fits : (w : World) (c : ℕ) (j : Job) (xs : List ℕ) → length xs ≡ j .len → j .work ≡ Append → beginNumber w c j ≡ 0 → badPage (shapeUnder (w .held)) (content dataKind xs) ≡ false
+begin-fits w c j xs size is e = rw (data-page, data-bytes, size, le-ltb (shapeUnder (w .held) .cap) (j .len) (begin-short w c j is e))
 
 -- a memory that passes the test of what is lent is good in the yard's shape, and of its number
 pub tested : (shape u : ℕ) (m : List ℕ) → goodUnit shape u m ≡ true → (good (shapeFor shape) m ≡ true) × (numberOf m ≡ u)
@@ -77,11 +82,7 @@ serve-shape : (w : World) (a : Ask) (g : Page) (l : Layout) → serve w a g l .w
 unfolding serve asking offeringTo
 serve-shape w Fetch g l = refl
 serve-shape w (Token e) g l = refl
-serve-shape w (Write u e p) g l = refl
-serve-shape w (Read u e p) g l = refl
-serve-shape w (Trim u e p) g l = refl
-serve-shape w (Prune u e p) g l = refl
-serve-shape w (Seal u e) g l = refl
+serve-shape w (Unit u a) g l = refl
 serve-shape w Offer g l = shape-stays (w .held) l
 serve-shape w (Start e p) g l = refl
 

@@ -2,7 +2,7 @@
 use mathlib.Core.Path.{_≡_, refl, sym, subst, _∙_}
 use mathlib.Core.Bool.{Bool, true, false, not, cond}
 use mathlib.Core.List.{List, [], _∷_, _++_}
-use Prim.Native.Nat.{ℕ, zero, suc, _+_, _-_, _≤_, _<_}
+use Prim.Native.Nat.{ℕ, zero, suc, _-_, _≤_, _<_}
 use native.Mathlib.Omega.{arith}
 use lib.Dec.{eqb, leb, ltb}
 use lib.ListN.{length, getD, set, length-set, length-append}
@@ -11,15 +11,17 @@ use Rattle.num.specs.Checks.{Check, lowest}
 use Rattle.num.proofs.Tests.{cond-zero, or-false}
 use Rattle.layout.specs.declared.Layout.{Layout}
 use Rattle.unit.specs.declared.shape.Shape.{Shape}
-use Rattle.unit.specs.State.{State, lookup}
-use Rattle.unit.specs.Unit.{freshUnit, trimmed, writeSays, written, writeUnit, trimSays, retired, trimmedAt, trimUnit, pruneSays, pruned, prunedTo, pruneUnit, sealSays, sealedAt, sealUnit}
+use Rattle.unit.specs.State.{State}
+use Rattle.unit.specs.Unit.{freshUnit}
+use Rattle.unit.proofs.Lasting.{number-stays}
+use Rattle.client.specs.declared.UnitAsk.{UnitAsk}
 use Rattle.client.specs.declared.Ask.{Ask}
-use Rattle.client.specs.declared.Ask.the-variants.{Fetch, Token, Write, Read, Trim, Prune, Seal, Offer, Start}
+use Rattle.client.specs.declared.Ask.the-variants.{Fetch, Token, Unit, Offer, Start}
 use Rattle.client.specs.declared.Page.{Page as PageValue}
 use Rattle.client.specs.declared.state.Job.{Job}
 use Rattle.client.specs.declared.turn.Turn.{Turn}
 use Rattle.client.specs.Client.{busy, lastNumber}
-use Rattle.client.specs.Turn.{rests, over, ends}
+use Rattle.client.specs.Turn.{rests, ends}
 use Rattle.client.specs.Take.{takes}
 use Rattle.client.specs.Job.{jobChecks}
 use Rattle.client.specs.Begin.{beginTurn, giveUp, restarted}
@@ -29,36 +31,16 @@ use Rattle.rule.specs.declared.Letter.{Letter}
 use Rattle.rule.specs.declared.Step.{Step}
 use Rattle.rule.specs.declared.Step.the-variants.{Begin, Deliver, Drop, Stop, Restart, GiveUp, Forget}
 use Rattle.rule.specs.World.{World, shapeUnder, isClient, isUnit, running, clientAt, unitAt, letterAt, letterLimit}
-use Rattle.rule.specs.Serve.{withUnit, serve, asking, offeringTo, unserved, kindOf, bytesOf}
+use Rattle.rule.specs.Serve.{requestOf, unitAfter, withUnit, serve, asking, offeringTo, unserved}
 use Rattle.rule.specs.Steps.{Done, refused, fine, without, keeping, tooMany, withLetters, withClient, withStopped, sentBy, turned, beginNumber, begins, answers, served, taken, unbrought, brought, delivered, delivers, drops, stops, restartNumber, restarts, givesUp, forgets, response, step}
+use Rattle.client.proofs.Turns.{give-up-cases}
 use Rattle.rule.proofs.Lists.{posted-few, set-all, unit-range, unit-runs}
 
 -- ---- the number of a unit does not change
 
-either-number : {n : ℕ} (b : Bool) (x y : State) → x .number ≡ n → y .number ≡ n → cond b x y .number ≡ n
-either-number true x y a b = a
-either-number false x y a b = b
-
-module _ (sh : Shape) (u : State) where
-  write-number : (e p k : ℕ) (xs : List ℕ) → writeUnit sh u e p k xs .number ≡ u .number
-  unfolding writeUnit written
-  write-number e p k xs = either-number (eqb (writeSays sh u e p k xs) 0) (written u p k xs) u refl refl
-
-  trim-number : (e p : ℕ) → trimUnit sh u e p .number ≡ u .number
-  unfolding trimUnit trimmedAt written retired
-  trim-number e p =
-      let at = either-number (trimmed p (u .floor) (lookup p (u .slots) .kind)) u (cond (eqb (lookup p (u .slots) .kind) 0) (written u p 3 []) (retired u p)) refl
-      (either-number (eqb (lookup p (u .slots) .kind) 0) (written u p 3 []) (retired u p) refl refl) in
-      either-number (eqb (trimSays sh u e p) 0) (trimmedAt u p) u at refl
-
-module _ (u : State) where
-  prune-number : (e p : ℕ) → pruneUnit u e p .number ≡ u .number
-  unfolding pruneUnit prunedTo pruned
-  prune-number e p = either-number (eqb (pruneSays u e p) 0) (prunedTo u p) u (either-number (ltb (u .floor) p) (pruned u p) u refl refl) refl
-
-  seal-number : (n : ℕ) → sealUnit u n .number ≡ u .number
-  unfolding sealUnit sealedAt
-  seal-number n = either-number (eqb (sealSays u n) 0) (sealedAt u n) u refl refl
+after-number : (sh : Shape) (s : State) (a : UnitAsk) (g : PageValue) → unitAfter sh s a g .number ≡ s .number
+unfolding unitAfter
+after-number sh s a g = number-stays sh s (requestOf a g)
 
 -- ---- what a yard is like after any moves
 
@@ -92,19 +74,9 @@ serve-tidy : (w : World) (a : Ask) (g : PageValue) (k : Layout) (ls : List Lette
 unfolding serve asking offeringTo
 serve-tidy w Fetch g k ls to few tidy = tidy-as refl few tidy
 serve-tidy w (Token e) g k ls to few tidy = tidy-as refl few tidy
-serve-tidy w (Write u e p) g k ls to few tidy =
+serve-tidy w (Unit u a) g k ls to few tidy =
     let range = unit-range u (unit-runs (isUnit u) (not (getD (w .stopped) (u - 1) true)) to) in
-    with-number (writeUnit (shapeUnder (w .held)) (unitAt w u) (e .0) (p .0) (kindOf g) (bytesOf g)) ls tidy few (range .0) (range .1) (write-number (shapeUnder (w .held)) (unitAt w u) (e .0) (p .0) (kindOf g) (bytesOf g))
-serve-tidy w (Read u e p) g k ls to few tidy = tidy-as refl few tidy
-serve-tidy w (Trim u e p) g k ls to few tidy =
-    let range = unit-range u (unit-runs (isUnit u) (not (getD (w .stopped) (u - 1) true)) to) in
-    with-number (trimUnit (shapeUnder (w .held)) (unitAt w u) (e .0) (p .0)) ls tidy few (range .0) (range .1) (trim-number (shapeUnder (w .held)) (unitAt w u) (e .0) (p .0))
-serve-tidy w (Prune u e p) g k ls to few tidy =
-    let range = unit-range u (unit-runs (isUnit u) (not (getD (w .stopped) (u - 1) true)) to) in
-    with-number (pruneUnit (unitAt w u) (e .0) (p .0)) ls tidy few (range .0) (range .1) (prune-number (unitAt w u) (e .0) (p .0))
-serve-tidy w (Seal u e) g k ls to few tidy =
-    let range = unit-range u (unit-runs (isUnit u) (not (getD (w .stopped) (u - 1) true)) to) in
-    with-number (sealUnit (unitAt w u) (e .0)) ls tidy few (range .0) (range .1) (seal-number (unitAt w u) (e .0))
+    with-number (unitAfter (shapeUnder (w .held)) (unitAt w u) a g) ls tidy few (range .0) (range .1) (after-number (shapeUnder (w .held)) (unitAt w u) a g)
 serve-tidy w Offer g k ls to few tidy = tidy-as refl few tidy
 serve-tidy w (Start e p) g k ls to few tidy = tidy-as refl few tidy
 
@@ -143,18 +115,17 @@ module _ (w : World) (tidy : Tidy w) where
       (λ e. tidy)
 
   give-up-tidy : (c : ℕ) → Tidy (givesUp w c .world)
-  unfolding givesUp giveUp ends over rests
-  give-up-tidy c = either-tidy (isClient c) (turned w (w .letters) c (giveUp (clientAt w c))) (refused w 17) (λ e. go (busy (clientAt w c .stage))) (λ e. tidy)
+  unfolding givesUp
+  give-up-tidy c =
+      either-tidy (isClient c) (turned w (w .letters) c (giveUp (clientAt w c))) (refused w 17)
+      (λ e. give-up-cases (λ t. Tidy (turned w (w .letters) c t .world)) (clientAt w c) (λ b. turned-tidy (w .letters) c (ends (clientAt w c) 20) none-more) (λ b. turned-tidy (w .letters) c (rests (clientAt w c)) none-more))
+      (λ e. tidy)
     where
       none-at-all : List Letter
       none-at-all = []
 
       none-more : length (w .letters ++ []) ≤ 32
       none-more = omega (arith, length-append (w .letters) none-at-all, tidy .few)
-
-      go : (b : Bool) → Tidy (turned w (w .letters) c (cond b (ends (clientAt w c) 20) (rests (clientAt w c))) .world)
-      go true = turned-tidy (w .letters) c (ends (clientAt w c) 20) none-more
-      go false = turned-tidy (w .letters) c (rests (clientAt w c)) none-more
 
   deliver-tidy : (i : ℕ) (keep keepAnswer : Bool) → Tidy (delivers w i keep keepAnswer .world)
   unfolding delivers delivered served taken

@@ -1,5 +1,5 @@
 -- "Fresh yard: a good layout of epoch 1 (else 10), sequencer at epoch 1 and 0, eight units sealed at 0 with floor and count 0, no letters,
--- clients idle in life 1 with no number used."
+-- clients idle in life 1 with no number used." (docs/RULES.md, 9.4)
 use Prim.Native.Nat.{ℕ, zero, suc, _*_}
 use mathlib.Core.Bool.{false, _&&_, not, cond}
 use mathlib.Core.List.{List, [], _∷_}

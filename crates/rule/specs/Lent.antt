@@ -1,4 +1,4 @@
--- What a step is lent, and what it leaves there: the yard by value, the sequencer, the table of letters, and the eight unit memories in one.
+-- What a step is lent, and what it leaves there: the yard by value, the sequencer, the table of letters, and the eight unit memories in one (docs/RULES.md, 9.1).
 use Prim.Native.Nat.{ℕ, zero, suc, _-_, max}
 use mathlib.Core.Bool.{Bool, true, false, _&&_, _||_, not, cond}
 use mathlib.Core.List.{List, [], _∷_, _++_}
@@ -15,7 +15,7 @@ use Rattle.sequencer.specs.declared.Sequencer.{Sequencer}
 use Rattle.client.specs.declared.Client.{Client}
 use Rattle.client.specs.declared.state.Job.{Job}
 use Rattle.client.specs.declared.Stage.{Stage}
-use Rattle.client.specs.declared.Stage.the-variants.{Idle, Fetching, Drawing, Writing, Reading, Filling, Looking, Trimming, Pruning, Sealing, Offering, Starting}
+use Rattle.client.specs.declared.Stage.the-variants.{Idle, Fetching, Working}
 use Rattle.client.specs.Turn.{noOutcome}
 use Rattle.rule.specs.declared.Letter.{Letter}
 use Rattle.rule.specs.declared.Yard.{Yard}
@@ -52,16 +52,7 @@ goodUnits shape u (suc n) m = goodUnit shape u (take unitSize m) && goodUnits sh
 abbrev pub fetched : Stage → Bool
 fetched Idle = false
 fetched Fetching = false
-fetched (Drawing n) = true
-fetched (Writing u n) = true
-fetched (Reading u) = true
-fetched (Filling u) = true
-fetched (Looking u) = true
-fetched (Trimming u) = true
-fetched (Pruning u) = true
-fetched (Sealing u e) = true
-fetched (Offering e) = true
-fetched Starting = true
+fetched (Working p) = true
 
 unfoldable pub goodClients : List Client → Bool
 goodClients [] = true

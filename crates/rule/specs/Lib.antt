@@ -3,4 +3,3 @@ pub mod Serve
 pub mod Steps
 pub mod Lent
 pub mod Fresh
-pub mod Unique

@@ -1,16 +1,20 @@
--- What a machine answers to a request, and what the yard's machines are afterwards.
+-- What a machine answers to a request, and what the yard's machines are afterwards (docs/RULES.md, 9.3).
 use Prim.Native.Nat.{ℕ, _-_}
 use mathlib.Core.Bool.{Bool, false, not, cond}
 use mathlib.Core.List.{List, []}
 use lib.Dec.{eqb, leb}
 use lib.ListN.{length, take, set}
+use Rattle.num.specs.declared.Epoch.{Epoch}
+use Rattle.num.specs.declared.Position.{Position}
 use Rattle.layout.specs.declared.Layout.{Layout}
 use Rattle.layout.specs.declared.holder.Offered.{Offered}
 use Rattle.layout.specs.declared.holder.Fetched.{Fetched}
 use Rattle.layout.specs.Value.{blank, padded}
 use Rattle.layout.specs.Holder.{offeredTo, fetchedFrom}
-use Rattle.unit.specs.State.{Slot, State}
-use Rattle.unit.specs.Unit.{writeSays, writeUnit, readSays, readShows, trimSays, trimUnit, pruneSays, pruneUnit, sealSays, sealTells, sealUnit}
+use Rattle.unit.specs.declared.shape.Shape.{Shape}
+use Rattle.unit.specs.State.{Content, State, content}
+use Rattle.unit.specs.Unit.{Request, says, after as unit-after, report}
+use Rattle.unit.specs.Unit.Request.{write, read, trim, prune, seal}
 use Rattle.sequencer.specs.declared.Sequencer.{Sequencer}
 use Rattle.sequencer.specs.declared.Asked.{Asked}
 use Rattle.sequencer.specs.declared.Asked.the-variants as asked
@@ -18,8 +22,10 @@ use Rattle.sequencer.specs.declared.Told.{Told}
 use Rattle.sequencer.specs.declared.Told.the-variants.{At, Number}
 use Rattle.sequencer.specs.Rules.{told, after}
 use Rattle.client.specs.declared.Page.{Page}
+use Rattle.client.specs.declared.UnitAsk.{UnitAsk}
+use Rattle.client.specs.declared.UnitAsk.the-variants.{Write, Read, Trim, Prune, Seal}
 use Rattle.client.specs.declared.Ask.{Ask}
-use Rattle.client.specs.declared.Ask.the-variants.{Fetch, Token, Write, Read, Trim, Prune, Seal, Offer, Start}
+use Rattle.client.specs.declared.Ask.the-variants.{Fetch, Token, Unit, Offer, Start}
 use Rattle.client.specs.declared.Reply.{Reply}
 use Rattle.client.specs.declared.Reply.the-variants.{Held, Given, Fine, Shown, Edge, Refused}
 use Rattle.client.specs.declared.Response.{Response}
@@ -27,7 +33,7 @@ use Rattle.client.specs.Message.{pageLimit, noPage}
 use Rattle.rule.specs.World.{World, shapeUnder, running, unitAt}
 
 -- an answer, and the yard once it is given
-pub record Served : Type 0 where
+pub record ServedWorld : Type 0 where
   pub response : Response
   pub world : World
 
@@ -50,21 +56,41 @@ kindOf g = cond (leb (g .len) pageLimit) (g .kind) 0
 unfoldable pub bytesOf : Page → List ℕ
 bytesOf g = cond (leb (g .len) pageLimit) (take (g .len) (g .bytes)) []
 
-unfoldable pub pageOf : Slot → Page
+unfoldable pub pageOf : Content → Page
 pageOf s = record { kind = s .kind; len = length (s .payload); bytes = padded pageLimit 0 (s .payload) }
 
-unfoldable pub shown : State → ℕ → ℕ → Response
-shown u e p =
-    cond (eqb (readSays u e p) 0)
-    (record { reply = Shown; page = pageOf (readShows u e p); layout = blank })
-    (bare (Refused (readSays u e p)))
+unfoldable pub shown : Shape → State → Epoch → Position → Response
+shown sh u e p =
+    cond (eqb (says sh u (read e p)) 0)
+    (record { reply = Shown; page = pageOf (report sh u (read e p) .page); layout = blank })
+    (bare (Refused (says sh u (read e p))))
 
 -- an edge where the number is 0
 abbrev pub edgeOr : ℕ → ℕ → Reply
 edgeOr n e = cond (eqb n 0) (Edge (record { 0 = e })) (Refused n)
 
-unfoldable pub edged : State → ℕ → Reply
-edged u e = edgeOr (sealSays u e) (sealTells u e)
+unfoldable pub edged : Shape → State → Epoch → Reply
+edged sh u e = edgeOr (says sh u (seal e)) (report sh u (seal e) .edge)
+
+-- what a unit is asked by a letter that bears the page g
+abbrev pub requestOf : UnitAsk → Page → Request
+requestOf (Write e p) g = write e p (content (kindOf g) (bytesOf g))
+requestOf (Read e p) g = read e p
+requestOf (Trim e p) g = trim e p
+requestOf (Prune e p) g = prune e p
+requestOf (Seal e) g = seal e
+
+-- what it answers, in its shape
+unfoldable pub unitSays : Shape → State → UnitAsk → Page → Response
+unitSays sh s (Write e p) g = bare (saying (says sh s (write e p (content (kindOf g) (bytesOf g)))))
+unitSays sh s (Read e p) g = shown sh s e p
+unitSays sh s (Trim e p) g = bare (saying (says sh s (trim e p)))
+unitSays sh s (Prune e p) g = bare (saying (says sh s (prune e p)))
+unitSays sh s (Seal e) g = bare (edged sh s e)
+
+-- and what it is afterwards
+unfoldable pub unitAfter : Shape → State → UnitAsk → Page → State
+unitAfter sh s a g = unit-after sh s (requestOf a g)
 
 abbrev pub withUnit : World → ℕ → State → World
 withUnit w u s = record {
@@ -92,7 +118,7 @@ withSequencer w s = record {
   letters = w .letters;
 }
 
-unfoldable pub asking : World → Asked → Served
+unfoldable pub asking : World → Asked → ServedWorld
 asking w a = record { response = bare (telling (told (w .sequencer) a)); world = withSequencer w (after (w .sequencer) a) }
 
 -- ---- the holder
@@ -110,28 +136,18 @@ withHeld w l = record {
 unfoldable pub fetching : Fetched → Response
 fetching f = cond (eqb (f .answer) 0) (record { reply = Held; page = noPage; layout = f .layout }) (bare (Refused (f .answer)))
 
-unfoldable pub offeringTo : World → Offered → Served
+unfoldable pub offeringTo : World → Offered → ServedWorld
 offeringTo w o = record { response = bare (saying (o .answer)); world = withHeld w (o .held) }
 
 -- ---- a request goes to its machine: a unit by its number, fetch and offer to the holder, token and start to the sequencer
 
-abbrev pub atUnit : World → ℕ → Response → State → Served
+abbrev pub atUnit : World → ℕ → Response → State → ServedWorld
 atUnit w u r s = record { response = r; world = withUnit w u s }
 
-unfoldable pub serve : World → Ask → Page → Layout → Served
+unfoldable pub serve : World → Ask → Page → Layout → ServedWorld
 serve w Fetch g l = record { response = fetching (fetchedFrom (w .held)); world = w }
 serve w (Token e) g l = asking w (asked.Token e)
-serve w (Write u e p) g l =
-    atUnit w u
-    (bare (saying (writeSays (shapeUnder (w .held)) (unitAt w u) (e .0) (p .0) (kindOf g) (bytesOf g))))
-    (writeUnit (shapeUnder (w .held)) (unitAt w u) (e .0) (p .0) (kindOf g) (bytesOf g))
-serve w (Read u e p) g l = record { response = shown (unitAt w u) (e .0) (p .0); world = w }
-serve w (Trim u e p) g l =
-    atUnit w u
-    (bare (saying (trimSays (shapeUnder (w .held)) (unitAt w u) (e .0) (p .0))))
-    (trimUnit (shapeUnder (w .held)) (unitAt w u) (e .0) (p .0))
-serve w (Prune u e p) g l = atUnit w u (bare (saying (pruneSays (unitAt w u) (e .0) (p .0)))) (pruneUnit (unitAt w u) (e .0) (p .0))
-serve w (Seal u e) g l = atUnit w u (bare (edged (unitAt w u) (e .0))) (sealUnit (unitAt w u) (e .0))
+serve w (Unit u a) g l = atUnit w u (unitSays (shapeUnder (w .held)) (unitAt w u) a g) (unitAfter (shapeUnder (w .held)) (unitAt w u) a g)
 serve w Offer g l = offeringTo w (offeredTo (w .held) l)
 serve w (Start e p) g l = asking w (asked.Start e p)
 
@@ -139,10 +155,6 @@ serve w (Start e p) g l = asking w (asked.Start e p)
 abbrev pub unserved : List Bool → Ask → Bool
 unserved stopped Fetch = false
 unserved stopped (Token e) = false
-unserved stopped (Write u e p) = not (running stopped u)
-unserved stopped (Read u e p) = not (running stopped u)
-unserved stopped (Trim u e p) = not (running stopped u)
-unserved stopped (Prune u e p) = not (running stopped u)
-unserved stopped (Seal u e) = not (running stopped u)
+unserved stopped (Unit u a) = not (running stopped u)
 unserved stopped Offer = false
 unserved stopped (Start e p) = false

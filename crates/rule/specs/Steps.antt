@@ -1,4 +1,4 @@
--- The steps of the yard. A refused step changes nothing at all.
+-- The steps of the yard. A refused step changes nothing at all (docs/RULES.md, 9.2).
 use Prim.Native.Nat.{ℕ, zero, suc, _-_}
 use mathlib.Core.Bool.{Bool, true, false, _||_, not, cond}
 use mathlib.Core.List.{List, [], _∷_, _++_}
@@ -27,7 +27,7 @@ use Rattle.rule.specs.declared.Letter.{Letter}
 use Rattle.rule.specs.declared.Step.{Step}
 use Rattle.rule.specs.declared.Step.the-variants.{Begin, Deliver, Drop, Stop, Restart, GiveUp, Forget}
 use Rattle.rule.specs.World.{World, isClient, running, letterLimit, clientAt, letterAt}
-use Rattle.rule.specs.Serve.{Served, serve, unserved, withSequencer}
+use Rattle.rule.specs.Serve.{ServedWorld, serve, unserved, withSequencer}
 
 -- who: the client whose operation ended, 0 where none did; outcome: how it ended
 pub record Done : Type 0 where
@@ -139,7 +139,7 @@ answers true s r = answerTo s r ∷ []
 answers false s r = []
 
 -- a machine has served: ls, the letters before its answer
-unfoldable pub served : World → List Letter → Bool → Stamp → Served → Done
+unfoldable pub served : World → List Letter → Bool → Stamp → ServedWorld → Done
 served w ls keepAnswer s v =
     unlessFull w (ls ++ answers keepAnswer s (v .response))
     (fine (withLetters (v .world) (ls ++ answers keepAnswer s (v .response))))

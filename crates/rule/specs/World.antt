@@ -1,4 +1,4 @@
--- The yard as the paper speaks of it, without bytes.
+-- The yard as docs/RULES.md, 9, speaks of it, without bytes.
 use Prim.Native.Nat.{ℕ, _-_}
 use mathlib.Core.Bool.{Bool, true, _&&_, not}
 use mathlib.Core.List.{List}
@@ -16,6 +16,7 @@ use Rattle.client.specs.Client.{fresh}
 use Rattle.client.specs.Message.{noPage}
 use Rattle.rule.specs.declared.Body.the-variants.{Blank}
 use Rattle.rule.specs.declared.Letter.{Letter}
+pub use Rattle.num.specs.Limits.{unitLimit}
 
 -- held: the holder's layout. stopped: unit by unit. letters: the bag
 pub record World : Type 0 where
@@ -31,9 +32,6 @@ abbrev pub shapeUnder : Layout → Shape
 shapeUnder l = shapeFor (l .shape)
 
 -- ---- units 1 to 8, clients 1 to 4, letters at most 32
-
-abbrev pub unitLimit : ℕ
-unitLimit = 8
 
 abbrev pub clientLimit : ℕ
 clientLimit = 4

@@ -16,3 +16,4 @@ pub mod Starting
 pub mod Ranges
 pub mod Held
 pub mod Answers
+pub mod Unique

@@ -2,4 +2,3 @@ pub mod Cue
 pub mod Steps
 pub mod Play
 pub mod Put
-pub mod Unique

@@ -41,8 +41,6 @@ use Rattle.sequencer.specs.declared.Asked.{Asked}
 use Rattle.sequencer.specs.declared.Sequencer.{Sequencer}
 use Rattle.sequencer.specs.declared.Step.{Step}
 use Rattle.sequencer.proofs.Sequencer as S
-use Rattle.sequencer.proofs.Asked as Q
-use Rattle.sequencer.proofs.Asked.Laws as Q′
 use Rattle.sequencer.proofs.Told as D
 use Rattle.sequencer.proofs.Told.Laws as D′
 use Rattle.sequencer.proofs.Step as R
@@ -51,17 +49,6 @@ use Rattle.sequencer.proofs.Plain.{Plain, mirsOf, slots, kepts, rows, P
 use Rattle.sequencer.proofs.Thin.{vS, thin, Keeps, Steps, Lent, thin-walk}
 
 -- what stands beside the sequencer in this crate
-abbrev pub asked-plain : Plain
-asked-plain = record {
-  row = Q.the-row;
-  vals = EL.vals Q.the-type Q′.the-laws;
-  tells = EL.tells Q.the-type Q′.the-laws;
-  lawful = λ 𝓤 H A W. EL.lawful Q.the-type Q′.the-laws 𝓤 H A W tt;
-  makes = λ 𝓤 H A. EL.makes Q.the-type Q′.the-plain 𝓤 H A;
-  last = λ x. tt;
-  silent = λ x f. refl;
-}
-
 abbrev pub epoch-plain : Plain
 epoch-plain = record {
   row = E.the-row;

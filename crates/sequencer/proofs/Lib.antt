@@ -5,3 +5,4 @@ pub mod Locals
 pub mod Plain
 pub mod Thin
 pub mod Lent
+pub mod Unique

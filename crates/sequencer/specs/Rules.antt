@@ -1,4 +1,4 @@
--- What a sequencer answers to whatever it is asked, and what it is afterwards, for every epoch, count and state.
+-- What a sequencer answers to whatever it is asked, and what it is afterwards, for every epoch, count and state (docs/RULES.md, 7).
 use Prim.Native.Nat.{ℕ, _+_}
 use mathlib.Core.Bool.{not, cond}
 use mathlib.Core.List.{List, [], _∷_}
@@ -18,7 +18,7 @@ use Rattle.sequencer.specs.declared.Told.the-variants.{At, Number}
 abbrev pub fresh : Sequencer
 fresh = record { epoch = record { 0 = 1 }; next = record { 0 = 0 } }
 
--- the paper's number of an answer, and the position that it gives, if any
+-- the number of an answer (docs/RULES.md, 10), and the position that it gives, if any
 abbrev pub numberOf : Told → ℕ
 numberOf (At p) = 0
 numberOf (Number n) = n
@@ -55,7 +55,7 @@ position s asked = cond (eqb (number s asked) 0) (gives s asked) none
 unfoldable pub after : Sequencer → Asked → Sequencer
 after s asked = cond (eqb (number s asked) 0) (becomes s asked) s
 
--- what each function promises: the answer by the paper's number and value, and the sequencer afterwards
+-- what each function promises: the answer by its number and value (docs/RULES.md, 7), and the sequencer afterwards
 pub record Served (before : Sequencer) (asked : Asked) (told : Told) (then : Sequencer) : Type 0 where
   pub number-is : numberOf told ≡ number before asked
   pub position-is : positionOf told ≡ position before asked

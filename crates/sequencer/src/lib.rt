@@ -18,7 +18,7 @@ pub enum Asked {
     Forget,
 }
 
-// What it answers: a token's position, or the paper's number and nothing else.
+// What it answers: a token's position, or a number of docs/RULES.md, 10, and nothing else.
 pub enum Told {
     At(Position),
     Number(u8),
@@ -122,15 +122,7 @@ pub fn stepped(s: Sequencer, asked: Asked) -> Step
     }
 }
 
-// Where the sequencer stands: whatever is asked. This one and the three below it are thin over the ones by value, and proved by one walk.
-pub fn serve(s: &mut Sequencer, asked: Asked) -> Told
-    ensures { λ r. ⌜ Served (now (s .entry)) asked r (now (s .exit)) ⌝ }
-{
-    let done = stepped(*s, asked);
-    *s = done.after;
-    done.told
-}
-
+// Where the sequencer stands. This one and the two below it are thin over the ones by value, and proved by one walk.
 pub fn token(s: &mut Sequencer, epoch: Epoch) -> Told
     ensures { λ r. ⌜ Served (now (s .entry)) (Asked.Token epoch) r (now (s .exit)) ⌝ }
 {

@@ -3,19 +3,29 @@ use Prim.Native.Nat.{ℕ}
 use mathlib.Core.List.{List}
 use mathlib.Core.Path.{_≡_}
 use lib.ListN.{length}
+use Rattle.num.specs.declared.Epoch.{Epoch}
+use Rattle.num.specs.declared.Position.{Position}
 use Rattle.num.specs.Told.{told}
 use Rattle.unit.specs.Shape.{shapeOf}
-use Rattle.unit.specs.Rules.{readAnswer, readPage, readStart, sealAnswer, sealEdge, sealMemory}
+use Rattle.unit.specs.Unit.Request.{read, seal}
+use Rattle.unit.specs.Rules.{answer, reported, start}
+use Rattle.unit.specs.Promises.{IsAnswered}
+
+-- the counts that a C program hands in as plain numbers
+abbrev pub epochOf : ℕ → Epoch
+epochOf n = record { 0 = n }
+
+abbrev pub positionOf : ℕ → Position
+positionOf n = record { 0 = n }
 
 -- a read, and the lent numbers before and after it
-pub record IsTold (m : List ℕ) (epoch p kind start size answer kind′ start′ size′ : ℕ) : Type 0 where
-  pub answer-is : answer ≡ readAnswer (shapeOf m) m epoch p
-  pub kind-is : kind′ ≡ told (readAnswer (shapeOf m) m epoch p) (readPage (shapeOf m) m epoch p .kind) kind
-  pub start-is : start′ ≡ told (readAnswer (shapeOf m) m epoch p) (readStart (shapeOf m) m epoch p) start
-  pub length-is : size′ ≡ told (readAnswer (shapeOf m) m epoch p) (length (readPage (shapeOf m) m epoch p .payload)) size
+pub record IsTold (m : List ℕ) (e : Epoch) (p : Position) (kind at size n kind′ at′ size′ : ℕ) : Type 0 where
+  pub answered : IsAnswered m (read e p) n m
+  pub kind-is : kind′ ≡ told (answer (shapeOf m) m (read e p)) (reported (shapeOf m) m (read e p) .page .kind) kind
+  pub start-is : at′ ≡ told (answer (shapeOf m) m (read e p)) (start (shapeOf m) m e p) at
+  pub length-is : size′ ≡ told (answer (shapeOf m) m (read e p)) (length (reported (shapeOf m) m (read e p) .page .payload)) size
 
 -- a seal, and the lent edge before and after it
-pub record IsSealTold (m : List ℕ) (n edge answer edge′ : ℕ) (after : List ℕ) : Type 0 where
-  pub answer-is : answer ≡ sealAnswer (shapeOf m) m n
-  pub edge-is : edge′ ≡ told (sealAnswer (shapeOf m) m n) (sealEdge (shapeOf m) m n) edge
-  pub memory-is : after ≡ sealMemory (shapeOf m) m n
+pub record IsSealTold (m : List ℕ) (e : Epoch) (edge n edge′ : ℕ) (after : List ℕ) : Type 0 where
+  pub answered : IsAnswered m (seal e) n after
+  pub edge-is : edge′ ≡ told (answer (shapeOf m) m (seal e)) (reported (shapeOf m) m (seal e) .edge) edge

@@ -1,6 +1,8 @@
 // The unit for a station's own C program: numbers and byte slices. A slice is a pointer and then a length.
-ghost use Rattle.unit.specs.Promises.{IsFresh, IsWritten, IsTrimmed, IsPruned};
-ghost use Rattle.station.specs.Told.{IsTold, IsSealTold};
+ghost use Rattle.unit.specs.State.{content};
+ghost use Rattle.unit.specs.Unit.{Request};
+ghost use Rattle.unit.specs.Promises.{IsFresh, IsAnswered};
+ghost use Rattle.station.specs.Told.{epochOf, positionOf, IsTold, IsSealTold};
 use num::Epoch;
 use num::Position;
 use unit::fresh::fresh;
@@ -25,7 +27,7 @@ pub extern "C" fn unit_write(
     kind: u8,
     bytes: &[u8],
 ) -> u8
-    ensures { λ r. ⌜ IsWritten (now (mem .entry)) epoch position kind (now (bytes .entry)) r (now (mem .exit)) ⌝ }
+    ensures { λ r. ⌜ IsAnswered (now (mem .entry)) (Request.write (epochOf epoch) (positionOf position) (content kind (now (bytes .entry)))) r (now (mem .exit)) ⌝ }
 {
     write(mem, Epoch(epoch), Position(position), kind, bytes)
 }
@@ -40,7 +42,7 @@ pub extern "C" fn unit_read(
     start: &mut u64,
     length: &mut u64,
 ) -> u8
-    ensures { λ r. ⌜ IsTold (now (mem .entry)) epoch position (now (kind .entry)) (now (start .entry)) (now (length .entry)) r (now (kind .exit)) (now (start .exit)) (now (length .exit)) ⌝ }
+    ensures { λ r. ⌜ IsTold (now (mem .entry)) (epochOf epoch) (positionOf position) (now (kind .entry)) (now (start .entry)) (now (length .entry)) r (now (kind .exit)) (now (start .exit)) (now (length .exit)) ⌝ }
 {
     let seen = read(mem, Epoch(epoch), Position(position));
     let answer = seen.answer;
@@ -54,14 +56,14 @@ pub extern "C" fn unit_read(
 
 #[no_mangle]
 pub extern "C" fn unit_trim(mem: &mut [u8], epoch: u32, position: u64) -> u8
-    ensures { λ r. ⌜ IsTrimmed (now (mem .entry)) epoch position r (now (mem .exit)) ⌝ }
+    ensures { λ r. ⌜ IsAnswered (now (mem .entry)) (Request.trim (epochOf epoch) (positionOf position)) r (now (mem .exit)) ⌝ }
 {
     trim(mem, Epoch(epoch), Position(position))
 }
 
 #[no_mangle]
 pub extern "C" fn unit_prune(mem: &mut [u8], epoch: u32, position: u64) -> u8
-    ensures { λ r. ⌜ IsPruned (now (mem .entry)) epoch position r (now (mem .exit)) ⌝ }
+    ensures { λ r. ⌜ IsAnswered (now (mem .entry)) (Request.prune (epochOf epoch) (positionOf position)) r (now (mem .exit)) ⌝ }
 {
     prune(mem, Epoch(epoch), Position(position))
 }
@@ -69,7 +71,7 @@ pub extern "C" fn unit_prune(mem: &mut [u8], epoch: u32, position: u64) -> u8
 // On a refusal `edge` keeps what it held.
 #[no_mangle]
 pub extern "C" fn unit_seal(mem: &mut [u8], epoch: u32, edge: &mut u64) -> u8
-    ensures { λ r. ⌜ IsSealTold (now (mem .entry)) epoch (now (edge .entry)) r (now (edge .exit)) (now (mem .exit)) ⌝ }
+    ensures { λ r. ⌜ IsSealTold (now (mem .entry)) (epochOf epoch) (now (edge .entry)) r (now (edge .exit)) (now (mem .exit)) ⌝ }
 {
     let done = seal(mem, Epoch(epoch));
     let answer = done.answer;

@@ -15,6 +15,7 @@ use Rattle.num.specs.Limits.{limit}
 use Rattle.num.proofs.Tests.{false-true, and-both, and-false}
 use Rattle.num.proofs.Numbers.{Bytes}
 use Rattle.unit.specs.Zeros.{zeros, ruler}
+use Rattle.unit.specs.Kinds.{isKind, hasBytes}
 use Rattle.unit.specs.Shape.{slotSize}
 use Rattle.unit.specs.Memory.{goodFields, goodSlot, goodSlots}
 use Rattle.unit.proofs.Fields.{and-assoc}
@@ -63,6 +64,7 @@ turned-back cap tag t c e l =
 -- t is one less than the word, and its low byte is moved to the top
 pub tag-good : (cap tag t : ℕ) → cap ≤ 80 → tag < 2 ^ 64 → t < 2 ^ 64 → (t + 1) % 2 ^ 64 ≡ tag
     → (leb (t / 256 + t % 256 * 72057594037927936) cap || leb t 2) ≡ goodFields cap 0 0 (tag % 256) (tag / 256)
+unfolding isKind hasBytes
 tag-good cap tag t hc hg ht e = go (leb turned cap) refl (leb t 2) refl
   where
     turned : ℕ
@@ -93,8 +95,9 @@ tag-good cap tag t hc hg ht e = go (leb turned cap) refl (leb t 2) refl
                 let d = eqb-false (tag % 256) 1 q in
                 let l = eqb-true (tag / 256) 0 (rw q at (f .plain)) in
                 let x = leb-false t 2 g in
-                let a = f .least in
-                let b = f .most in
+                let (least, most) = and-both (leb 1 (tag % 256)) (leb (tag % 256) 3) (f .known) in
+                let a = leb-true 1 (tag % 256) least in
+                let b = leb-true (tag % 256) 3 most in
                 let n : tag ≡ t + 1 = omega arith in
                 omega arith
 
@@ -106,11 +109,11 @@ tag-length tag t hg ht e h l =
     omega arith
 
 fields-apart : (cap low p kind len : ℕ) → goodFields cap low p kind len ≡ ((leb low p && ltb p limit) && goodFields cap 0 0 kind len)
-fields-apart cap low p kind len = apart (leb low p && ltb p limit) _ _ _ _
+fields-apart cap low p kind len = apart (leb low p && ltb p limit) _ _ _
   where
-    apart : (x a b c d : Bool) → (x && a && b && c && d) ≡ (x && (a && b && c && d))
-    apart true a b c d = refl
-    apart false a b c d = refl
+    apart : (x a b c : Bool) → (x && a && b && c) ≡ (x && (a && b && c))
+    apart true a b c = refl
+    apart false a b c = refl
 
 -- ---- the sums
 

@@ -11,6 +11,7 @@ use lib.ListN.{length, getD, drop, length-drop}
 use lib.Seq.{getD-drop, drop-drop}
 use Rattle.num.specs.Bytes.{le}
 use Rattle.unit.specs.Zeros.{zeros}
+use Rattle.unit.specs.Kinds.{isKind, hasBytes}
 use Rattle.unit.specs.Shape.{Shape, slotSize, memorySize}
 use Rattle.num.specs.Limits.{limit}
 use Rattle.num.proofs.Tests.{and-both, and-false}
@@ -18,24 +19,23 @@ use Rattle.num.proofs.Numbers.{Bytes, le-two, le-pair}
 use Rattle.unit.proofs.Fields.{and-assoc}
 use Rattle.unit.proofs.Words.{le-none}
 use Rattle.unit.specs.Memory.{goodFields, goodSlot, goodSlots, goodHeader, good, floorOf, countOf, numberOf, codeOf}
+use Rattle.unit.proofs.Questions.{kind-least}
 
 -- what good fields say
 pub record FieldsGood (cap low p kind len : ℕ) : Type 0 where
   pub rising : low ≤ p
   pub below : p < limit
-  pub least : 1 ≤ kind
-  pub most : kind ≤ 3
+  pub known : isKind kind ≡ true
   pub fits : len ≤ cap
-  pub plain : (eqb kind 1 || eqb len 0) ≡ true
+  pub plain : (hasBytes kind || eqb len 0) ≡ true
 
 pub fields-good : (cap low p kind len : ℕ) → goodFields cap low p kind len ≡ true → FieldsGood cap low p kind len
 fields-good cap low p kind len h =
-    let (h5, f) = and-both (leb low p && ltb p limit && leb 1 kind && leb kind 3 && leb len cap) (eqb kind 1 || eqb len 0) h in
-    let (h4, e) = and-both (leb low p && ltb p limit && leb 1 kind && leb kind 3) (leb len cap) h5 in
-    let (h3, d) = and-both (leb low p && ltb p limit && leb 1 kind) (leb kind 3) h4 in
-    let (h2, c) = and-both (leb low p && ltb p limit) (leb 1 kind) h3 in
+    let (h4, f) = and-both (leb low p && ltb p limit && isKind kind && leb len cap) (hasBytes kind || eqb len 0) h in
+    let (h3, e) = and-both (leb low p && ltb p limit && isKind kind) (leb len cap) h4 in
+    let (h2, c) = and-both (leb low p && ltb p limit) (isKind kind) h3 in
     let (a, b) = and-both (leb low p) (ltb p limit) h2 in
-    record { rising = leb-true _ _ a; below = ltb-true _ _ b; least = leb-true _ _ c; most = leb-true _ _ d; fits = leb-true _ _ e; plain = f }
+    record { rising = leb-true _ _ a; below = ltb-true _ _ b; known = c; fits = leb-true _ _ e; plain = f }
 
 -- a slot at an offset of the memory
 pub slot-at : (cap low at : ℕ) (m : List ℕ) → goodSlot cap low (drop at m)
@@ -87,6 +87,7 @@ words-test cap low p tag kind len rest n f z last c hk hl ht hf hn hz = go (leb 
         pick : (b : Bool) → f ≡ b → (f && z) ≡ (goodFields cap low p kind len && (leb rest 0 && last))
         pick true q =
             let y = fields-good cap low p kind len (sym same ∙ q) in
+            let least = kind-least kind (y .known) in
             let k : n ≡ len = hn (omega arith) (omega (arith, others, one, y .fits)) ∙ others ∙ one in
             sym (rw (e, hz k, fields, one))
         pick false q =

@@ -1,4 +1,5 @@
 -- The laws that more than one proof cites.
+pub mod Questions
 pub mod Fields
 pub mod Words
 pub mod Goodness
@@ -22,3 +23,4 @@ pub mod Shown
 pub mod Marks
 pub mod Payload
 pub mod Both
+pub mod Unique

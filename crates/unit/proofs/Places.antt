@@ -11,6 +11,7 @@ use lib.ListN.{length, getD, take, drop}
 use lib.Seq.{getD-drop, drop-drop}
 use Rattle.num.specs.Bytes.{le}
 use Rattle.unit.specs.Shape.{Shape, slotSize}
+use Rattle.unit.specs.Kinds.{noKind}
 use Rattle.unit.specs.State.{Slot, nothing, lookup, before}
 use Rattle.unit.specs.Memory.{slotAt, slotsAt, goodSlot, goodSlots, good, decode, placeOf, countOf, floorOf}
 use Rattle.num.proofs.Tests.{and-both}
@@ -242,7 +243,7 @@ pub record Stands (sh : Shape) (m : List ℕ) (p at : ℕ) : Type 0 where
   pub within : at + slotSize (sh .cap) ≤ length m
   pub short : getD m (at + 9) 0 ≤ sh .cap
 
-found-held : (n k p : ℕ) (ys : List ℕ) → (found n k p ys .kind ≡ 0 → ⊥) → (k < n) × (le 8 ys ≡ p)
+found-held : (n k p : ℕ) (ys : List ℕ) → (found n k p ys .kind ≡ noKind → ⊥) → (k < n) × (le 8 ys ≡ p)
 found-held n k p ys h = go (ltb k n) refl (eqb (le 8 ys) p) refl
   where
     go : (b : Bool) → ltb k n ≡ b → (c : Bool) → eqb (le 8 ys) p ≡ c → (k < n) × (le 8 ys ≡ p)
@@ -251,7 +252,7 @@ found-held n k p ys h = go (ltb k n) refl (eqb (le 8 ys) p) refl
     go false e c q = absurd (h (rw e))
 
 pub held-stands : (sh : Shape) (m : List ℕ) (p at : ℕ) → good sh m ≡ true → at ≡ placeOf sh m p
-    → (lookup p (decode sh m .slots) .kind ≡ 0 → ⊥) → Stands sh m p at
+    → (lookup p (decode sh m .slots) .kind ≡ noKind → ⊥) → Stands sh m p at
 unfolding placeOf decode
 held-stands sh m p at g ha h =
     let n : ℕ = countOf m in

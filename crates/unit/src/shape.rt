@@ -3,6 +3,7 @@ ghost use mathlib.Core.Path.{_≡_};
 ghost use Prim.Native.Nat.{_<_};
 ghost use lib.ListN.{length};
 ghost use Rattle.unit.specs.Shape.{shapeFor, shapeOf};
+use crate::offset::Header;
 
 pub struct Shape {
     // The byte that names it.
@@ -52,5 +53,5 @@ pub(crate) fn shape_of(mem: &[u8]) -> Shape
     requires { ⌜ 1 < length (now mem) ⌝ }
     ensures { λ r. ⌜ r ≡ shapeOf (now (mem .entry)) ⌝ }
 {
-    shape_for(mem[1])
+    shape_for(mem[Header::SHAPE])
 }

@@ -7,6 +7,8 @@ ghost use Rattle.unit.specs.Shape.{slotSize};
 ghost use Rattle.unit.specs.State.{before, lookup};
 ghost use Rattle.unit.specs.Memory.{slotsAt, decode, placeOf, floorOf, goodSlots, good as goodMemory};
 use crate::field::number_at;
+use crate::offset::Header;
+use crate::offset::Slot;
 use crate::shape::Shape;
 use crate::word::word_at;
 
@@ -19,14 +21,24 @@ pub(crate) fn place(mem: &[u8], cap: usize, count: u64, p: u64) -> u64
     if count == 0 {
         return 0;
     }
-    if word_at(mem, 24 + ((count - 1) as usize) * (16 + cap)) < p {
+    if word_at(
+        mem,
+        Header::SIZE + ((count - 1) as usize) * (Slot::PAYLOAD + cap),
+    )
+        < p
+    {
         return count;
     }
     let mut low: u64 = 0;
     let mut size = count;
     while 1 < size {
         let half = size / 2;
-        if word_at(mem, 24 + ((low + half - 1) as usize) * (16 + cap)) < p {
+        if word_at(
+            mem,
+            Header::SIZE + ((low + half - 1) as usize) * (Slot::PAYLOAD + cap),
+        )
+            < p
+        {
             low = low + half;
         }
         size = size - half;
@@ -44,14 +56,14 @@ pub(crate) fn find(mem: &[u8], sh: Shape, p: u64) -> Found
     requires { ⌜ (goodMemory sh (now mem) ≡ true) × (sh .cap ≤ 255) ⌝ }
     ensures { λ r. ⌜ (r .at ≡ placeOf sh (now (mem .entry)) p) × (r .kind ≡ lookup p (decode sh (now (mem .entry)) .slots) .kind) ⌝ }
 {
-    let count = number_at(mem, 16, 2);
+    let count = number_at(mem, Header::COUNT, Header::COUNT_WIDTH);
     let before = place(mem, sh.cap, count, p);
-    let at = 24 + (before as usize) * (16 + sh.cap);
+    let at = Header::SIZE + (before as usize) * (Slot::PAYLOAD + sh.cap);
     if before < count {
         if word_at(mem, at) == p {
             return Found {
                 at: at,
-                kind: mem[at + 8],
+                kind: mem[at + Slot::KIND],
             };
         }
     }

@@ -19,9 +19,9 @@ use Rattle.client.specs.declared.Work.the-variants as work
 use Rattle.client.specs.declared.state.Job.{Job}
 use Rattle.client.specs.declared.Client.{Client}
 use Rattle.client.specs.Message.{pageLimit, plain}
-use Rattle.client.specs.Turn.{rests, sends}
 use Rattle.client.specs.Job.{past, tooLong, jobChecks, positionFor, pageFor, dataPage}
-use Rattle.client.specs.Begin.{readyChecks, beginAnswer, withJob, beginTurn}
+use Rattle.client.specs.Begin.{readyChecks, withJob, beginTurn}
+use Rattle.client.proofs.Turns.{begin-cases}
 use Rattle.rule.specs.declared.Step.the-variants.{Begin}
 use Rattle.rule.specs.World.{World, isClient, clientAt, letterLimit}
 use Rattle.rule.specs.Serve.{kindOf, bytesOf}
@@ -35,13 +35,14 @@ use Rattle.history.specs.History.Event.{ask as asking}
 use Rattle.history.specs.History.History.{_▹_}
 use Rattle.history.specs.History._⊑_.{here, later}
 use Rattle.history.specs.History.Noted.{noted-now, noted-before}
-use Rattle.history.specs.History.PageNoted.{by-fill}
+use Rattle.history.specs.History.MarkNoted.{by-fill}
 use Rattle.history.specs.Events.Run.{run-step}
-use Rattle.vouch.specs.Pages.{pageOf, carried}
-use Rattle.vouch.specs.Runs.{Move, Moves, world, Wants, Asked}
+use Rattle.vouch.proofs.Carried.{pageOf, carried}
+use Rattle.vouch.specs.Runs.{Move, Moves, world}
+use Rattle.vouch.proofs.Fields.{Wants, Asked}
 use Rattle.vouch.specs.Runs.Moves.{_▸_}
 use Rattle.vouch.specs.Runs._≼_.{all-of}
-use Rattle.vouch.specs.Runs.Wants.{wants-append, wants-fill, wants-trim, wants-prune}
+use Rattle.vouch.proofs.Fields.Wants.{wants-append, wants-fill, wants-trim, wants-prune}
 use Rattle.history.proofs.Moments.{part-trans}
 use Rattle.vouch.proofs.Untouched.{ask-is}
 use Rattle.vouch.proofs.Meaning.{WorkOk}
@@ -63,12 +64,12 @@ take-padded (suc n) (suc m) [] fits long = absurd (omega arith)
 take-padded (suc n) (suc m) (x ∷ xs) fits long = ap (λ ys. x ∷ ys) (take-padded n m xs (omega arith) (omega arith))
 
 pub data-bytes : (n : ℕ) (xs : List ℕ) → n ≤ pageLimit → n ≤ length xs → bytesOf (dataPage n xs) ≡ take n xs
-unfolding dataPage bytesOf
+unfolding bytesOf
 data-bytes n xs fits long = rw (le-leb n pageLimit fits) (take-padded n pageLimit xs fits long)
 
 -- it is no junk
-data-carried : (n : ℕ) (xs : List ℕ) → carried (dataPage n xs) ≡ bytes (bytesOf (dataPage n xs))
-unfolding dataPage kindOf
+pub data-carried : (n : ℕ) (xs : List ℕ) → carried (dataPage n xs) ≡ bytes (bytesOf (dataPage n xs))
+unfolding kindOf
 data-carried n xs = go (leb n pageLimit)
   where
     go : (b : Bool) → pageOf (cond b 1 0) (bytesOf (dataPage n xs)) ≡ bytes (bytesOf (dataPage n xs))
@@ -144,12 +145,7 @@ begun l ms {h} j work.Reorganise good is low = record { now = h; part = here; go
 -- ---- the begin
 
 begin-turn : {h : History} (c : Client) (j : Job) (shape : ℕ) → WorkOk h (j .work) (positionFor (j .work)) (pageFor (j .work) (j .len) (j .bytes)) → TurnOk h c (beginTurn c j shape)
-unfolding beginTurn withJob
-begin-turn {h} c j shape works = go (eqb (beginAnswer c j shape) 0)
-  where
-    go : (b : Bool) → TurnOk h c (cond b (sends (withJob c j) (plain ask.Fetch)) (rests c))
-    go true = sends-ok (withJob c j) (plain ask.Fetch) refl refl refl works waits-fetch fetch-ok
-    go false = rests-ok
+begin-turn {h} c j shape works = begin-cases (TurnOk h c) c j shape (λ fine. sends-ok (withJob c j) (plain ask.Fetch) refl refl refl works waits-fetch fetch-ok) (λ refused. rests-ok)
 
 -- the yard's checks and the job's let it through
 record Ready (w : World) (c : ℕ) (j : Job) : Type 0 where

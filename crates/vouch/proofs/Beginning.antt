@@ -1,6 +1,6 @@
 -- An operation begins and fetches the layout, with no other step between.
 -- Rests on Exchange and Offers.
-use mathlib.Core.Path.{_≡_, refl, ap, _∙_}
+use mathlib.Core.Path.{_≡_, refl, ap, _∙_, sym}
 use mathlib.Core.Bool.{true, false, not}
 use mathlib.Core.List.{List, _∷_}
 use Prim.Native.Nat.{ℕ, _≤_, _<_}
@@ -8,6 +8,7 @@ use native.Mathlib.Omega.{arith}
 use borrow.Author.Tests.{lt-leb, eq-eqb}
 use lib.Dec.{eqb, leb}
 use lib.ListN.{length}
+use Rattle.num.proofs.Tests.{false-true}
 use Rattle.layout.specs.Value.{goodValue}
 use Rattle.client.specs.declared.Reply.the-variants.{Held}
 use Rattle.client.specs.declared.Response.{Response}
@@ -18,10 +19,11 @@ use Rattle.client.specs.declared.turn.Turn.{Turn}
 use Rattle.client.specs.Message.{noPage, plain}
 use Rattle.client.specs.declared.Ask.the-variants.{Fetch}
 use Rattle.client.specs.Client.{busy, holding, lastNumber}
-use Rattle.client.specs.Turn.{numbered, next, sent, sends}
+use Rattle.client.specs.Turn.{numbered, next, sent}
 use Rattle.client.specs.Job.{past, tooLong}
 use Rattle.client.specs.Begin.{beginAnswer, withJob, beginTurn}
-use Rattle.client.specs.Take.{goesOn, holds, onFetched, answered}
+use Rattle.client.specs.Take.{goesOn, answered}
+use Rattle.client.proofs.Turns.{begin-cases, held-cases, sends-sent}
 use Rattle.rule.specs.World.{World, isClient, clientAt}
 use Rattle.rule.specs.Serve.{serve}
 use Rattle.rule.specs.Steps.{Done, turned, beginNumber, begins, step}
@@ -64,7 +66,6 @@ module _ (w : World) (c : ℕ) (ready : Ready w c) (j : Job) (fit : Fit j (w .he
       ∙ pass _ _ (tooLong (j .work) (j .len) (w .held .shape)) (fit .short)))))
 
   answer-none : beginAnswer x j (w .held .shape) ≡ 0
-  unfolding beginAnswer
   answer-none =
       pass _ _ (busy (x .stage)) not-busy
       ∙ (pass _ _ (leb lastNumber (x .used .0)) left
@@ -76,10 +77,10 @@ module _ (w : World) (c : ℕ) (ready : Ready w c) (j : Job) (fit : Fit j (w .he
   started = withJob x j
 
   turn-is : beginTurn x j (w .held .shape) ≡ sent started (plain Fetch)
-  unfolding beginTurn sends withJob
-  turn-is = hold _ _ (eqb (beginAnswer x j (w .held .shape)) 0) (eq-eqb (beginAnswer x j (w .held .shape)) 0 answer-none) ∙ pass _ _ (leb lastNumber (x .used .0)) left
+  turn-is =
+      begin-cases (λ (t : Turn). t ≡ sent started (plain Fetch)) x j (w .held .shape) (λ fine. sends-sent started (plain Fetch) (ready .number-left)) (λ refused. absurd (refused answer-none))
 
-  begins-so : result w (begin c j) ≡ turned w (w .letters) c (sent started (plain Fetch))
+  pub begins-so : result w (begin c j) ≡ turned w (w .letters) c (sent started (plain Fetch))
   unfolding step begins
   begins-so =
       hold _ _ (eqb (beginNumber w c j) 0) (eq-eqb (beginNumber w c j) 0 number-none)
@@ -101,12 +102,12 @@ module _ (w : World) (c : ℕ) (ready : Ready w c) (j : Job) (fit : Fit j (w .he
     }
 
     takes-layout : answered (started .stage) (numbered started (next started)) answer ≡ goesOn (j .work) fetched
-    unfolding withJob answered onFetched holds numbered
-    takes-layout = hold _ _ (goodValue (w .held)) good
+    takes-layout =
+        held-cases (λ (t : Turn). t ≡ goesOn (j .work) fetched) (numbered started (next started)) (w .held) (λ fine. refl) (λ bad. absurd (false-true (sym bad ∙ good)))
 
     pub begin-fetch : {ms : List Move} {d : Done} → GoesOn w c (w .letters) (w .held) (w .units) (w .sequencer) (goesOn (j .work) fetched) ms d →
-        Goes w (begin c j ∷ deliver (length (w .letters)) ∷ deliver (length (w .letters)) ∷ ms) d
-    unfolding turned numbered
+        Goes step w (begin c j ∷ deliver (length (w .letters)) ∷ deliver (length (w .letters)) ∷ ms) d
+    unfolding turned
     begin-fetch {ms} {d} on =
         goes-to _ begins-so refl refl
         (exchange-on w c (w .letters) (ready .is-client) (ready .clients) (ready .few) asks
@@ -115,7 +116,7 @@ module _ (w : World) (c : ℕ) (ready : Ready w c) (j : Job) (fit : Fit j (w .he
     -- the yard then
     pub fetch-leads : let k = length (w .letters) in
         result (result (result w (begin c j) .world) (deliver k) .world) (deliver k) .world ≡ after w c (w .letters) (w .held) (w .units) (w .sequencer) (goesOn (j .work) fetched)
-    unfolding turned numbered
+    unfolding turned
     fetch-leads =
         let k = length (w .letters) in
         ap (λ (d : Done). result (result (d .world) (deliver k) .world) (deliver k) .world) begins-so

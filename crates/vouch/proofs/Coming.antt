@@ -11,16 +11,19 @@ use Rattle.layout.proofs.Values.{value-of-good}
 use Rattle.unit.specs.State.{State}
 use Rattle.unit.specs.Unit.{freshUnit}
 use Rattle.client.specs.declared.Client.{Client}
-use Rattle.client.specs.Client.{idle, fresh as freshClient}
+use Rattle.client.specs.declared.Stage.{Stage}
+use Rattle.client.specs.Client.{fresh as freshClient}
+use Rattle.client.proofs.Clients.{idle-stage}
 use Rattle.rule.specs.World.{shapeUnder, clientAt, unitAt}
 use Rattle.rule.specs.Fresh.{freshUnits, freshWorld}
 use Rattle.history.specs.History.{Note, History, _⊑_, Noted, held}
 use Rattle.history.specs.History.History.{fresh}
 use Rattle.history.specs.History._⊑_.{here}
 use Rattle.history.specs.Events.Run.{run-fresh}
-use Rattle.vouch.specs.Layouts.{mapOf}
+use Rattle.vouch.proofs.Layouts.{mapOf}
 use Rattle.history.specs.Maps.{Map}
-use Rattle.vouch.specs.Runs.{Move, Moves, _≼_, result, world, Asked}
+use Rattle.vouch.specs.Runs.{Move, Moves, _≼_, result, world, worldBy}
+use Rattle.vouch.proofs.Fields.{Asked}
 use Rattle.vouch.specs.Runs.Moves.{none, _▸_}
 use Rattle.vouch.specs.Runs._≼_.{all-of, part-of}
 use Rattle.history.proofs.Moments.{part-trans}
@@ -42,13 +45,13 @@ fresh-unit zero k i = refl
 fresh-unit (suc n) k zero = ap freshUnit (omega arith)
 fresh-unit (suc n) k (suc i) = subst (λ j. getD (freshUnits (suc k) n) i (freshUnit j) ≡ freshUnit j) (omega arith) (fresh-unit n (suc k) i)
 
-fresh-client : (n i : ℕ) → getD (replicate n freshClient) i freshClient ≡ freshClient
+pub fresh-client : (n i : ℕ) → getD (replicate n freshClient) i freshClient ≡ freshClient
 fresh-client zero i = refl
 fresh-client (suc n) zero = refl
 fresh-client (suc n) (suc i) = fresh-client n i
 
 pub fresh-good : (l : Layout) → goodValue l ≡ true → l .epoch .0 ≡ 1 → Good l none (fresh (mapOf (layOf l))) (freshWorld l)
-unfolding freshWorld freshUnits held idle
+unfolding freshWorld freshUnits held
 fresh-good l good first = record {
   machines = record {
     run = run-fresh (good-map (layOf l) (value-of-good l good .0)) (epoch-of l ∙ first);
@@ -70,7 +73,8 @@ fresh-good l good first = record {
         subst (λ (M : State). UnitIs (shapeUnder l) (fresh (mapOf (layOf l))) u M) (sym same) (fresh-is (shapeUnder l) (mapOf (layOf l)) u low high)
 
     stage : (c : ℕ) → 1 ≤ c → c ≤ 4 → StageOk (fresh (mapOf (layOf l))) (clientAt (freshWorld l) c) (clientAt (freshWorld l) c .stage)
-    stage c low high = subst (λ (d : Client). StageOk (fresh (mapOf (layOf l))) d (d .stage)) (sym (fresh-client 4 (c - 1))) tt
+    stage c low high = subst (λ (d : Client). StageOk (fresh (mapOf (layOf l))) d (d .stage)) (sym (fresh-client 4 (c - 1)))
+        (subst (λ (st : Stage). StageOk (fresh (mapOf (layOf l))) freshClient st) (sym (idle-stage 1 (record { 0 = 0 }))) tt)
 
 -- ---- every run
 
@@ -96,7 +100,7 @@ not-noted = elim [ ]
 
 module _ (l : Layout) (good : goodValue l ≡ true) (first : l .epoch .0 ≡ 1) where
   pub come : (ms : Moves) → Come l ms
-  unfolding world
+  unfolding worldBy
   come none = record { now = fresh (mapOf (layOf l)); good = fresh-good l good first; asked = λ n noted. absurd (not-noted noted) }
   come (ms ▸ m) = let next = step-ok l ms (m .does) (m .job) (come ms .good) in record { now = next .now; good = next .good; asked = λ n noted. join n (next .asked n noted) (λ old. come ms .asked n old) }
     where

@@ -1,40 +1,39 @@
 -- Trim, prune and read.
 -- Rests on Turns, Walking and Appends.
 use mathlib.Core.Path.{_≡_, refl, sym, subst, _∙_}
-use mathlib.Core.Bool.{Bool, true, false, cond}
 use Prim.Native.Nat.{ℕ, _≤_, _<_}
 use native.Mathlib.Omega.{arith}
 use native.Mathlib.Decide.{decLt}
-use lib.Dec.{eqb}
-use borrow.Author.Tests.{eqb-false}
 use Rattle.num.specs.declared.Position.{Position}
 use Rattle.layout.specs.Value.{layOf}
-use Rattle.layout.specs.Places.{setAt, after, nextUnit}
 use Rattle.client.specs.declared.Page.{Page as PageValue}
 use Rattle.client.specs.declared.Reply.the-variants.{Fine, Shown, Refused}
 use Rattle.client.specs.declared.Work.the-variants as work
-use Rattle.client.specs.declared.Stage.the-variants.{Reading, Trimming, Pruning}
+use Rattle.client.specs.declared.Phase.the-variants.{Reading, Trimming, Pruning}
 use Rattle.client.specs.declared.Client.{Client}
 use Rattle.client.specs.Message.{noPage, plain}
+use Rattle.client.specs.declared.UnitAsk.the-variants as unit-ask
 use Rattle.client.specs.declared.Ask.the-variants as ask
-use Rattle.client.specs.Client.{inStage}
-use Rattle.client.specs.Turn.{outcomeOf, ends}
+use Rattle.client.specs.Client.{inPhase}
+use Rattle.client.specs.Turn.{outcomeOf}
 use Rattle.client.specs.Way.{afterFor, unitAbove}
+use Rattle.client.proofs.Turns.{trimmed-cases, pruned-cases}
 use Rattle.history.specs.Words.{UnitNo, Pos, Answer}
 use Rattle.history.specs.Words.Answer.{shows}
 use Rattle.history.specs.Maps.{Has}
 use Rattle.history.specs.History.{History, Noted, MarkedBy}
 use Rattle.history.specs.History.Note.{pruneTo}
+use Rattle.history.specs.History.MarkNoted.{by-trim}
 use Rattle.history.specs.History.Mark.{page, gone}
 use Rattle.history.specs.Events.{Takes, Run}
-use Rattle.vouch.specs.Layouts.{mapOf}
-use Rattle.vouch.specs.Pages.{carried}
+use Rattle.vouch.proofs.Layouts.{mapOf}
+use Rattle.vouch.proofs.Carried.{carried}
 use Rattle.vouch.proofs.Walks.{next-has, next-next}
-use Rattle.client.specs.Trim.{trims, trimsOn, onTrimmed, prunes, prunesOn, onPruned}
+use Rattle.client.specs.Trim.{trims, onTrimmed, prunes, prunesOn, onPruned}
 use Rattle.client.specs.Read.{reads, onRead}
 use Rattle.history.specs.Words.Answer.{trimmed, unwritten}
-use Rattle.vouch.specs.Runs.{Returns}
-use Rattle.vouch.specs.Runs.Returns.{returns-page, returns-trimmed, returns-unwritten}
+use Rattle.vouch.proofs.Fields.{Returns}
+use Rattle.vouch.proofs.Fields.Returns.{returns-page, returns-trimmed, returns-unwritten}
 use Rattle.history.proofs.Order.{last-in}
 use Rattle.history.proofs.Moments.{laid-on}
 use Rattle.history.proofs.Epochs.{laid-one}
@@ -45,74 +44,59 @@ use Rattle.vouch.proofs.Turns.{TurnOk, other-quiet, quiet-ok, ends-ok, 
 use Rattle.vouch.proofs.Turns.TurnOk.{over-ok}
 use Rattle.vouch.proofs.Turns.Other.{is-trim, is-prune}
 use Rattle.vouch.proofs.GoodMap.{epoch-of}
-use Rattle.vouch.proofs.Walking.{is-good, walk-next, trim-vouches, look-vouches, prune-vouches}
+use Rattle.vouch.proofs.Walking.{is-good, walk-next, walk-vouches, look-vouches, prune-vouches}
 use Rattle.vouch.proofs.Appends.{after-is}
 
 -- ---- trim
 
 module _ {h : History} (run : Run h) (b c : Client) (life : c .life ≡ b .life) (used : c .used ≡ b .used) (works : c .work ≡ b .work) where
   pub trims-ok : (u : ℕ) → TrimmingOk h (c .work) (c .layout) (c .position .0) u → TurnOk h b (trims c u)
-  unfolding trims inStage
-  trims-ok u ok = sends-ok (inStage c (Trimming u)) (plain (ask.Trim u (c .layout .epoch) (c .position))) life used refl ok waits-trim (trim-ok (trim-vouches (ok .walk) (ok .asked)))
+  trims-ok u ok = sends-ok (inPhase c (Trimming u)) (plain (ask.Unit u (unit-ask.Trim (c .layout .epoch) (c .position)))) life used refl ok waits-trim (trim-ok (walk-vouches (ok .walk) (by-trim (ok .asked))))
 
   -- ---- prune
 
   pub prunes-ok : (u : ℕ) → PruningOk h (c .work) (c .layout) (c .position .0) u → TurnOk h b (prunes c u)
-  unfolding prunes inStage
   prunes-ok u ok =
-      sends-ok (inStage c (Pruning u)) (plain (ask.Prune u (c .layout .epoch) (c .position))) life used refl ok waits-prune
+      sends-ok (inPhase c (Pruning u)) (plain (ask.Unit u (unit-ask.Prune (c .layout .epoch) (c .position)))) life used refl ok waits-prune
       (prune-ok (prune-vouches (ok .fetched) (ok .has) (ok .behind) (ok .asked)))
 
   -- all units up to u have pruned
   pub pruned : (u : ℕ) (q : Position) → c .work ≡ work.Prune q → Fetched h (c .layout) → Noted h (pruneTo (c .position .0)) →
       ((v : UnitNo) → Has (mapOf (layOf (c .layout))) v → v ≤ u → (p : Pos) → p < c .position .0 → MarkedBy h v p gone (c .layout .epoch .0)) → TurnOk h b (prunesOn c u)
-  unfolding prunesOn unitAbove
-  pruned u q is fetched asked upto = go (eqb (nextUnit (layOf (c .layout)) u) 0) refl
-    where
-      go : (b′ : Bool) → eqb (nextUnit (layOf (c .layout)) u) 0 ≡ b′ → TurnOk h b (cond b′ (ends c 0) (prunes c (nextUnit (layOf (c .layout)) u)))
-      go true e = ends-ok c 0 life used (other-quiet (is-prune (sym works ∙ is)))
-      go false e = prunes-ok (nextUnit (layOf (c .layout)) u) (record {
+  pruned u q is fetched asked upto =
+      pruned-cases (TurnOk h b) c u (λ none. ends-ok c 0 life used (other-quiet (is-prune (sym works ∙ is)))) (λ some. prunes-ok (unitAbove (c .layout) u) (record {
         pruned-to = q;
         is-prune = is;
         fetched = fetched;
-        has = next-has (layOf (c .layout)) u (eqb-false (nextUnit (layOf (c .layout)) u) 0 e);
+        has = next-has (layOf (c .layout)) u some;
         behind = λ v has lt. upto v has (next-next (layOf (c .layout)) u has lt);
         asked = asked;
-      })
+      }))
 
   -- ---- read
 
   pub reads-ok : (u : ℕ) → ReadingOk h (c .work) (c .layout) (c .position) u → TurnOk h b (reads c u)
-  unfolding reads inStage
   reads-ok u ok =
-      sends-ok (inStage c (Reading u)) (plain (ask.Read u (c .layout .epoch) (c .position))) life used refl ok waits-read
+      sends-ok (inPhase c (Reading u)) (plain (ask.Unit u (unit-ask.Read (c .layout .epoch) (c .position)))) life used refl ok waits-read
       (look-ok (look-vouches (ok .fetched) (last-in (ok .is-tail))))
 
 module _ {h : History} (run : Run h) (c : Client) (u : ℕ) where
   module _ (ok : TrimmingOk h (c .work) (c .layout) (c .position .0) u) where
     pub trim-fine : MarkedBy h u (c .position .0) gone (c .layout .epoch .0) → TurnOk h c (onTrimmed c u Fine)
-    unfolding onTrimmed trimsOn
-    trim-fine mk = go (eqb (afterFor c u) 0) refl
-      where
-        same : afterFor c u ≡ after u (setAt (layOf (c .layout)) (c .position .0))
-        same = after-is c u (ok .walk .fetched .is-good) (ok .walk .low)
-
-        go : (b : Bool) → eqb (afterFor c u) 0 ≡ b → TurnOk h c (cond b (ends c 0) (trims c (afterFor c u)))
-        go true e = ends-ok c 0 refl refl (other-quiet (is-trim (ok .is-trim)))
-        go false e = trims-ok run c c refl refl refl (afterFor c u) (record {
+    trim-fine mk =
+        let same = after-is c u (ok .walk .fetched .is-good) (ok .walk .low) in
+        trimmed-cases (TurnOk h c) c u (λ none. ends-ok c 0 refl refl (other-quiet (is-trim (ok .is-trim)))) (λ some. trims-ok run c c refl refl refl (afterFor c u) (record {
           trimmed-at = ok .trimmed-at;
           is-trim = ok .is-trim;
-          walk = subst (λ v. Walking h (c .layout) (c .position .0) v gone) (sym same) (walk-next (ok .walk) mk (λ z. eqb-false (afterFor c u) 0 e (same ∙ z)));
+          walk = subst (λ v. Walking h (c .layout) (c .position .0) v gone) (sym same) (walk-next (ok .walk) mk (λ z. some (same ∙ z)));
           asked = ok .asked;
-        })
+        }))
 
     pub trim-refused : (k : ℕ) → TurnOk h c (onTrimmed c u (Refused k))
-    unfolding onTrimmed
     trim-refused k = otherwise-ok k (λ not-fine. other-quiet (is-trim (ok .is-trim)))
 
   module _ (ok : PruningOk h (c .work) (c .layout) (c .position .0) u) where
     pub prune-fine : ((p : Pos) → p < c .position .0 → MarkedBy h u p gone (c .layout .epoch .0)) → TurnOk h c (onPruned c u Fine)
-    unfolding onPruned
     prune-fine mks = pruned run c c refl refl refl u (ok .pruned-to) (ok .is-prune) (ok .fetched) (ok .asked) (λ v has le p below. go v has le p below (decLt v u))
       where
         go : (v : UnitNo) → Has (mapOf (layOf (c .layout))) v → v ≤ u → (p : Pos) → p < c .position .0 → Dec (v < u) → MarkedBy h v p gone (c .layout .epoch .0)
@@ -120,7 +104,6 @@ module _ {h : History} (run : Run h) (c : Client) (u : ℕ) where
         go v has le p below (no ge) = let same : u ≡ v = omega arith in subst (λ w. MarkedBy h w p gone (c .layout .epoch .0)) same (mks p below)
 
     pub prune-refused : (k : ℕ) → TurnOk h c (onPruned c u (Refused k))
-    unfolding onPruned
     prune-refused k = otherwise-ok k (λ not-fine. other-quiet (is-prune (ok .is-prune)))
 
   module _ (ok : ReadingOk h (c .work) (c .layout) (c .position) u) where
@@ -138,7 +121,6 @@ module _ {h : History} (run : Run h) (c : Client) (u : ℕ) where
         }
 
     returned : {r : Answer} (n : ℕ) (x : PageValue) → Saw h u (c .layout .epoch .0) (c .position .0) r → ((s : Answer) → Returns (outcomeOf c n x) s → s ≡ r) → OutcomeOk h (c .work) (c .page) (outcomeOf c n x)
-    unfolding outcomeOf
     returned {r} n x saw only = record {
       append-done = λ is done. absurd (let both = sym (ok .is-read) ∙ is in let z : _≡_ {A = ℕ} 0 1 = cc in omega arith);
       was-read = λ {p} {r = s} is returns.
@@ -148,7 +130,6 @@ module _ {h : History} (run : Run h) (c : Client) (u : ℕ) where
     }
 
     pub read-shown : (x : PageValue) → Saw h u (c .layout .epoch .0) (c .position .0) (shows (carried x)) → TurnOk h c (onRead c Shown x)
-    unfolding onRead outcomeOf
     read-shown x saw = over-ok c 0 x refl refl (returned 0 x saw only)
       where
         only : (s : Answer) → Returns (outcomeOf c 0 x) s → s ≡ shows (carried x)
@@ -157,7 +138,6 @@ module _ {h : History} (run : Run h) (c : Client) (u : ℕ) where
         only s (returns-unwritten e) = absurd (omega (arith, e))
 
     pub read-gone : (x : PageValue) → Saw h u (c .layout .epoch .0) (c .position .0) trimmed → TurnOk h c (onRead c (Refused 5) x)
-    unfolding onRead outcomeOf
     read-gone x saw = otherwise-ok 5 (λ not-fine. returned 5 noPage saw only)
       where
         only : (s : Answer) → Returns (outcomeOf c 5 noPage) s → s ≡ trimmed
@@ -166,7 +146,6 @@ module _ {h : History} (run : Run h) (c : Client) (u : ℕ) where
         only s (returns-unwritten e) = absurd (omega (arith, e))
 
     pub read-none : (x : PageValue) → Saw h u (c .layout .epoch .0) (c .position .0) unwritten → TurnOk h c (onRead c (Refused 7) x)
-    unfolding onRead outcomeOf
     read-none x saw = otherwise-ok 7 (λ not-fine. returned 7 noPage saw only)
       where
         only : (s : Answer) → Returns (outcomeOf c 7 noPage) s → s ≡ unwritten
@@ -175,5 +154,4 @@ module _ {h : History} (run : Run h) (c : Client) (u : ℕ) where
         only s (returns-unwritten e) = refl
 
     pub read-refused : (k : ℕ) (x : PageValue) → ¬ (k ≡ 0) → ¬ (k ≡ 5) → ¬ (k ≡ 7) → TurnOk h c (onRead c (Refused k) x)
-    unfolding onRead
     read-refused k x k0 k5 k7 = otherwise-ok k (λ not-fine. quiet-ok c k k0 k5 k7)

@@ -1,32 +1,30 @@
 -- A delivery: a request to its machine, an answer to its client; kept or dropped, its answer kept or lost.
 -- Rests on Machines, Replies and Turning.
 use mathlib.Core.Path.{_≡_, refl, sym, ap, subst, _∙_}
-use mathlib.Core.Bool.{Bool, true, false, not, cond, _||_, _&&_}
+use mathlib.Core.Bool.{Bool, true, false, not, cond, _||_}
 use mathlib.Core.List.{List, _++_}
 use Prim.Native.Nat.{ℕ, _≤_}
 use native.Mathlib.Omega.{arith}
-use lib.Dec.{eqb}
 use lib.ListN.{length}
-use borrow.Author.Tests.{eqb-true}
-use Rattle.num.proofs.Tests.{and-both, or-false}
+use Rattle.num.proofs.Tests.{or-false}
 use Rattle.layout.specs.declared.Layout.{Layout}
 use Rattle.client.specs.declared.Ask.{Ask}
 use Rattle.client.specs.declared.Reply.{Reply}
 use Rattle.client.specs.declared.Stamp.{Stamp}
 use Rattle.client.specs.declared.state.Job.{Job}
 use Rattle.client.specs.declared.Stage.{Stage}
-use Rattle.client.specs.declared.Stage.the-variants.{Idle, Fetching, Drawing, Writing, Reading, Filling, Looking, Trimming, Pruning, Sealing, Offering, Starting}
+use Rattle.client.specs.declared.Stage.the-variants.{Idle, Fetching, Working}
 use Rattle.client.specs.declared.Client.{Client}
 use Rattle.client.specs.declared.turn.Turn.{Turn}
 use Rattle.client.specs.Client.{busy}
-use Rattle.client.specs.Turn.{rests}
-use Rattle.client.specs.Take.{answered, awaited, takes}
+use Rattle.client.specs.Take.{answered, takes}
+use Rattle.client.proofs.Turns.{takes-cases}
 use Rattle.rule.specs.declared.Letter.{Letter}
 use Rattle.rule.specs.declared.Body.{Body}
 use Rattle.rule.specs.declared.Body.the-variants.{Blank, Asks, Answers}
 use Rattle.rule.specs.declared.Step.the-variants.{Deliver}
 use Rattle.rule.specs.World.{World, isClient, clientAt, letterAt, blankLetter}
-use Rattle.rule.specs.Serve.{Served, serve, unserved}
+use Rattle.rule.specs.Serve.{ServedWorld, serve, unserved}
 use Rattle.rule.specs.Steps.{Done, refused, fine, keeping, tooMany, withLetters, sentBy, turned, answerTo, answers, served, taken, response, unbrought, brought, delivered, delivers, step}
 use Rattle.history.specs.History.{History}
 use Rattle.vouch.specs.Runs.{Move, Moves, world, result}
@@ -44,26 +42,17 @@ use Rattle.vouch.proofs.Turning.{machines-as, refused-ok, turned-ok}
 
 -- ---- an answer is taken
 
-busy-or-idle : (st : Stage) → Or (busy st ≡ true) (st ≡ Idle)
+pub busy-or-idle : (st : Stage) → Or (busy st ≡ true) (st ≡ Idle)
 busy-or-idle Idle = other refl
 busy-or-idle Fetching = either refl
-busy-or-idle (Drawing n) = either refl
-busy-or-idle (Writing u n) = either refl
-busy-or-idle (Reading u) = either refl
-busy-or-idle (Filling u) = either refl
-busy-or-idle (Looking u) = either refl
-busy-or-idle (Trimming u) = either refl
-busy-or-idle (Pruning u) = either refl
-busy-or-idle (Sealing u x) = either refl
-busy-or-idle (Offering p) = either refl
-busy-or-idle Starting = either refl
+busy-or-idle (Working p) = either refl
 
 module _ {l : Layout} {ms : Moves} {h : History} {w : World} (good : Good l ms h w) where
   -- what a client that waits takes is the answer to its outstanding request
   take-turn : (letter : Letter) (r : Reply) → isClient (letter .stamp .client) ≡ true → BodyOk l ms h (clientAt w (letter .stamp .client)) letter (Answers r) →
       TurnOk h (clientAt w (letter .stamp .client)) (takes (letter .stamp .client) (clientAt w (letter .stamp .client)) (letter .stamp) (response r letter))
-  unfolding takes awaited answered
-  take-turn letter r is ok = go (awaited i c s) refl
+  take-turn letter r is ok =
+      takes-cases (TurnOk h c) c i s (response r letter) (λ mine. answer (mine .life-is) (mine .number-is) (busy-or-idle (c .stage))) (λ other. rests-ok)
     where
       s : Stamp
       s = letter .stamp
@@ -82,13 +71,6 @@ module _ {l : Layout} {ms : Moves} {h : History} {w : World} (good : Good l ms h
           let was = ok (record { life-is = life; number-is = number; is-busy = waiting }) in
           reply-ok (good .machines .run) c (c .stage) (good .stages i (range .0) (range .1)) (was .waits) (was .means)
       answer life number (other idle) = subst (λ st. TurnOk h c (answered st c (response r letter))) (sym idle) rests-ok
-
-      go : (b : Bool) → awaited i c s ≡ b → TurnOk h c (cond b (answered (c .stage) c (response r letter)) (rests c))
-      go true e =
-          let x = and-both (eqb (s .client) i && eqb (s .life) (c .life)) (eqb (s .number .0) (c .used .0)) e in
-          let y = and-both (eqb (s .client) i) (eqb (s .life) (c .life)) (x .0) in
-          answer (eqb-true (s .life) (c .life) (y .1)) (eqb-true (s .number .0) (c .used .0) (x .1)) (busy-or-idle (c .stage))
-      go false e = rests-ok
 
 -- ---- the delivery
 
@@ -113,7 +95,7 @@ module _ (l : Layout) (ms : Moves) (i : ℕ) (keep keepAnswer : Bool) (j : Job) 
   -- ---- a request
 
   module _ (a : Ask) (asks : there .body ≡ Asks a) (ok : LetterOk l ms h (world l ms .clients) there) (to : unserved (world l ms .stopped) a ≡ false) where
-    abbrev v : Served
+    abbrev v : ServedWorld
     v = serve (world l ms) a (there .page) (there .layout)
 
     request-ok : RequestOk h (clientOf (world l ms .clients) (there .stamp .client)) (there .stamp) a (there .page) (there .layout)
@@ -123,8 +105,8 @@ module _ (l : Layout) (ms : Moves) (i : ℕ) (keep keepAnswer : Bool) (j : Job) 
     done = serve-ok (good .machines) to (request-ok .vouches)
 
     -- the answer, in the move m that was not refused
-    answer-ok : result (world l ms) m .answer ≡ 0 → LetterOk l (ms ▸ m) (done .now) (world l ms .clients) (answerTo (there .stamp) (v .response))
-    answer-ok fine = record {
+    answer-ok : keepAnswer ≡ true → result (world l ms) m .answer ≡ 0 → LetterOk l (ms ▸ m) (done .now) (world l ms .clients) (answerTo (there .stamp) (v .response))
+    answer-ok kept-it fine = record {
       is-client = ok .is-client;
       not-later = ok .not-later;
       body-ok = λ current. record {
@@ -139,15 +121,17 @@ module _ (l : Layout) (ms : Moves) (i : ℕ) (keep keepAnswer : Bool) (j : Job) 
           within = all-of;
           request = there;
           delivers = record { place = i; keep = keep; keepAnswer = keepAnswer; is-delivery = refl; letter-is = refl; not-refused = fine };
+          kept = kept-it;
+          current = current;
           asks = asks;
           answer-is = refl;
         };
       };
     }
 
-    answers-ok : (b : Bool) → result (world l ms) m .answer ≡ 0 → All (LetterOk l (ms ▸ m) (done .now) (world l ms .clients)) (kept ++ answers b (there .stamp) (v .response))
-    answers-ok true fine = all-end kept (letters-on l (part-of all-of) (done .machines .run) (done .part) keeps) (answer-ok fine)
-    answers-ok false fine = all-same kept (letters-on l (part-of all-of) (done .machines .run) (done .part) keeps)
+    answers-ok : (b : Bool) → keepAnswer ≡ b → result (world l ms) m .answer ≡ 0 → All (LetterOk l (ms ▸ m) (done .now) (world l ms .clients)) (kept ++ answers b (there .stamp) (v .response))
+    answers-ok true is fine = all-end kept (letters-on l (part-of all-of) (done .machines .run) (done .part) keeps) (answer-ok is fine)
+    answers-ok false is fine = all-same kept (letters-on l (part-of all-of) (done .machines .run) (done .part) keeps)
 
     served-good : result (world l ms) m .answer ≡ 0 → Next l ms m h (world l ms) (fine (withLetters (v .world) (kept ++ answers keepAnswer (there .stamp) (v .response))))
     served-good fine = record {
@@ -158,7 +142,7 @@ module _ (l : Layout) (ms : Moves) (i : ℕ) (keep keepAnswer : Bool) (j : Job) 
         clients-long = subst (λ (cs : List Client). length cs ≡ 4) (sym (done .clients-same)) (good .clients-long);
         stages = subst (λ (cs : List Client). (c : ℕ) → 1 ≤ c → c ≤ 4 → StageOk (done .now) (clientOf cs c) (clientOf cs c .stage)) (sym (done .clients-same))
             (stages-on (done .machines .run) (done .part) (world l ms) (good .stages));
-        letters = subst (λ (cs : List Client). All (LetterOk l (ms ▸ m) (done .now) cs) (kept ++ answers keepAnswer (there .stamp) (v .response))) (sym (done .clients-same)) (answers-ok keepAnswer fine);
+        letters = subst (λ (cs : List Client). All (LetterOk l (ms ▸ m) (done .now) cs) (kept ++ answers keepAnswer (there .stamp) (v .response))) (sym (done .clients-same)) (answers-ok keepAnswer refl fine);
       };
       asked = λ n noted. either (done .quiet n noted);
       outcome-ok = λ c low high who. absurd (omega (arith, who));

@@ -89,7 +89,7 @@ module _ (stopped : List Bool) (eight : length stopped ≡ 8) where
   abbrev drops : List ℕ
   drops = stoppedFrom 1 stopped
 
-  in-drops : (u : ℕ) → 1 ≤ u → u ≤ 8 → (u in? drops) ≡ getD stopped (u - 1) true
+  pub in-drops : (u : ℕ) → 1 ≤ u → u ≤ 8 → (u in? drops) ≡ getD stopped (u - 1) true
   in-drops u low high = stopped-in 1 stopped u (u - 1) (omega (arith, eight)) (omega arith)
 
   pub drops-good : badDrops drops [] ≡ false

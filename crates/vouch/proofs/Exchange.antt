@@ -3,9 +3,9 @@
 use mathlib.Core.Path.{_≡_, refl, sym, ap, subst, _∙_}
 use mathlib.Core.Bool.{Bool, true, false, not, _||_, cond}
 use mathlib.Core.List.{List, [], _∷_, _++_}
-use Prim.Native.Nat.{ℕ, _+_, _-_, _≤_, _<_}
+use Prim.Native.Nat.{ℕ, _-_, _≤_, _<_}
 use native.Mathlib.Omega.{arith}
-use borrow.Author.Tests.{leb-true, lt-leb, le-ltb, eq-eqb}
+use borrow.Author.Tests.{leb-true, le-ltb}
 use lib.Dec.{leb}
 use lib.ListN.{length, length-append, set}
 use lib.Seq.{getD-append-seam, getD-set-same, set-set}
@@ -20,10 +20,11 @@ use Rattle.client.specs.declared.Client.{Client}
 use Rattle.client.specs.declared.turn.Turn.{Turn}
 use Rattle.client.specs.Client.{fresh, lastNumber}
 use Rattle.client.specs.Turn.{numbered, next, sends}
-use Rattle.client.specs.Take.{answered, awaited, takes}
+use Rattle.client.specs.Take.{answered, takes}
+use Rattle.client.proofs.Turns.{sends-sent, takes-awaited}
 use Rattle.rule.specs.declared.Letter.{Letter}
 use Rattle.rule.specs.World.{World, isClient, clientAt, blankLetter}
-use Rattle.rule.specs.Serve.{Served, serve, unserved}
+use Rattle.rule.specs.Serve.{ServedWorld, serve, unserved}
 use Rattle.rule.specs.Steps.{Done, fine, without, tooMany, request, ended, sentBy, turned, answerTo, served, taken, delivered, delivers, step}
 use Rattle.vouch.specs.Runs.{Move, result}
 use Rattle.vouch.specs.LastSentence.{Goes, deliver}
@@ -53,11 +54,11 @@ without-last (x ∷ xs) l = ap (λ ys. x ∷ ys) (without-last xs l)
 
 -- ---- a move whose end is known
 
-pub goes-to : {w : World} {m : Move} {ms : List Move} {d : Done} (e : Done) → result w m ≡ e → e .answer ≡ 0 → e .who ≡ 0 → Goes (e .world) ms d → Goes w (m ∷ ms) d
-goes-to {w} {m} {ms} {d} e is a who rest = goes (ap (λ (x : Done). x .answer) is ∙ a) (ap (λ (x : Done). x .who) is ∙ who) (subst (λ (x : Done). Goes (x .world) ms d) (sym is) rest)
+pub goes-to : {w : World} {m : Move} {ms : List Move} {d : Done} (e : Done) → result w m ≡ e → e .answer ≡ 0 → e .who ≡ 0 → Goes step (e .world) ms d → Goes step w (m ∷ ms) d
+goes-to {w} {m} {ms} {d} e is a who rest = goes (ap (λ (x : Done). x .answer) is ∙ a) (ap (λ (x : Done). x .who) is ∙ who) (subst (λ (x : Done). Goes step (x .world) ms d) (sym is) rest)
 
-pub ends-at : {w : World} {m : Move} (e : Done) → result w m ≡ e → e .answer ≡ 0 → Goes w (m ∷ []) e
-ends-at {w} {m} e is a = subst (λ (x : Done). Goes w (m ∷ []) x) is (ends (ap (λ (x : Done). x .answer) is ∙ a))
+pub ends-at : {w : World} {m : Move} (e : Done) → result w m ≡ e → e .answer ≡ 0 → Goes step w (m ∷ []) e
+ends-at {w} {m} e is a = subst (λ (x : Done). Goes step w (m ∷ []) x) is (ends (ap (λ (x : Done). x .answer) is ∙ a))
 
 -- ---- the yard while client c works: w but for what serves it; its letters lie behind ls
 
@@ -83,16 +84,14 @@ module _ (w : World) (c : ℕ) (ls : List Letter) where
   -- what comes of a turn that ends nothing
   pub record GoesOn (k : Layout) (us : List State) (s : Sequencer) (t : Turn) (ms : List Move) (d : Done) : Type 0 where
     pub quiet : ended c (t .act) ≡ 0
-    pub rest : Goes (after k us s t) ms d
+    pub rest : Goes step (after k us s t) ms d
 
   pub as-turn : {k : Layout} {us : List State} {s : Sequencer} {t t′ : Turn} {ms : List Move} {d : Done} → t ≡ t′ → GoesOn k us s t′ ms d → GoesOn k us s t ms d
   as-turn {k} {us} {s} {t} {t′} {ms} {d} same on = subst (λ z. GoesOn k us s z ms d) (sym same) on
 
   pub sends-on : {k : Layout} {us : List State} {s : Sequencer} (y : Client) (q : Query) {ms : List Move} {d : Done} →
-      y .used .0 < lastNumber → Goes (waiting k us s y q) ms d → GoesOn k us s (sends y q) ms d
-  unfolding sends numbered
-  sends-on {k} {us} {s} y q {ms} {d} left rest =
-      as-turn (pass _ _ (leb lastNumber (y .used .0)) (lt-leb lastNumber (y .used .0) left)) (record { quiet = refl; rest = rest })
+      y .used .0 < lastNumber → Goes step (waiting k us s y q) ms d → GoesOn k us s (sends y q) ms d
+  sends-on {k} {us} {s} y q {ms} {d} left rest = as-turn (sends-sent y q left) (record { quiet = refl; rest = rest })
 
   module _ (is-client : isClient c ≡ true) (clients : length (w .clients) ≡ 4) (few : length ls ≤ 31) where
     pub place : c - 1 < length (w .clients)
@@ -117,14 +116,10 @@ module _ (w : World) (c : ℕ) (ls : List Letter) where
           ap (λ (z : Letter). delivered W (length ls) false true z) (getD-append-seam ls l [] blankLetter)
           ∙ (pass _ _ (not (isClient c) || unserved (w .stopped) (q .ask)) (neither (not (isClient c)) (unserved (w .stopped) (q .ask)) (not-so (isClient c) is-client) there)
           ∙ (ap (λ (zs : List Letter). served W zs true (stamp y) (serve W (q .ask) (q .page) (q .layout))) (without-last ls l)
-          ∙ (ap (λ (v : Served). served W ls true (stamp y) v) serves
+          ∙ (ap (λ (v : ServedWorld). served W ls true (stamp y) v) serves
           ∙ pass _ _ (tooMany (ls ++ answerTo (stamp y) r ∷ [])) (fits (answerTo (stamp y) r ∷ []) (omega arith)))))
 
     -- ---- its answer
-
-    awaits : (y : Client) → awaited c (numbered y (next y)) (stamp y) ≡ true
-    unfolding awaited numbered
-    awaits y = rw (eq-eqb c c refl, eq-eqb (y .life) (y .life) refl, eq-eqb (y .used .0 + 1) (y .used .0 + 1) refl)
 
     module _ (k : Layout) (us : List State) (s : Sequencer) (y : Client) (r : Response) where
       abbrev pub taking : Turn
@@ -132,7 +127,7 @@ module _ (w : World) (c : ℕ) (ls : List Letter) where
 
       pub answer-taken : result (yard k us s (numbered y (next y)) (answerTo (stamp y) r ∷ [])) (deliver (length ls))
           ≡ record { answer = 0; who = ended c (taking .act); outcome = taking .outcome; world = after k us s taking }
-      unfolding step delivers delivered taken takes turned numbered
+      unfolding step delivers delivered taken turned
       answer-taken =
           let l = answerTo (stamp y) r in
           let x = numbered y (next y) in
@@ -141,7 +136,7 @@ module _ (w : World) (c : ℕ) (ls : List Letter) where
           ∙ (pass _ _ (not (isClient c)) (not-so (isClient c) is-client)
           ∙ (ap (λ (zs : List Letter). taken W zs c (takes c (clientAt W c) (stamp y) r)) (without-last ls l)
           ∙ (ap (λ (z : Client). taken W ls c (takes c z (stamp y) r)) (getD-set-same (w .clients) (c - 1) x fresh place)
-          ∙ (ap (λ (t : Turn). taken W ls c t) (hold _ _ (awaited c x (stamp y)) (awaits y))
+          ∙ (ap (λ (t : Turn). taken W ls c t) (takes-awaited c x (stamp y) r (record { client-is = refl; life-is = refl; number-is = refl }))
           ∙ (pass _ _ (tooMany (ls ++ sentBy c taking)) (fits (sentBy c taking) (posted-few c (taking .client .life) (taking .act) (taking .query)))
           ∙ ap (λ (cs : List Client). record {
             answer = 0;
@@ -158,14 +153,14 @@ module _ (w : World) (c : ℕ) (ls : List Letter) where
       pub serves : serve (waiting k us s y q) (q .ask) (q .page) (q .layout) ≡ record { response = r; world = waiting k′ us′ s′ y q }
 
     pub exchange-on : {k k′ : Layout} {us us′ : List State} {s s′ : Sequencer} {y : Client} {q : Query} {r : Response} {ms : List Move} {d : Done} → Asked k k′ us us′ s s′ y q r →
-        GoesOn k′ us′ s′ (answered (y .stage) (numbered y (next y)) r) ms d → Goes (waiting k us s y q) (deliver (length ls) ∷ deliver (length ls) ∷ ms) d
+        GoesOn k′ us′ s′ (answered (y .stage) (numbered y (next y)) r) ms d → Goes step (waiting k us s y q) (deliver (length ls) ∷ deliver (length ls) ∷ ms) d
     exchange-on {k} {k′} {us} {us′} {s} {s′} {y} {q} {r} {ms} {d} ask on =
         goes-to _ (request-served k k′ us us′ s s′ y q r (ask .there) (ask .serves)) refl refl
         (goes-to _ (answer-taken k′ us′ s′ y r) refl (on .quiet) (on .rest))
 
     pub exchange-ends : {k k′ : Layout} {us us′ : List State} {s s′ : Sequencer} {y : Client} {q : Query} {r : Response} → Asked k k′ us us′ s s′ y q r →
         (t : Turn) → answered (y .stage) (numbered y (next y)) r ≡ t →
-        Goes (waiting k us s y q) (deliver (length ls) ∷ deliver (length ls) ∷ []) (record { answer = 0; who = ended c (t .act); outcome = t .outcome; world = after k′ us′ s′ t })
+        Goes step (waiting k us s y q) (deliver (length ls) ∷ deliver (length ls) ∷ []) (record { answer = 0; who = ended c (t .act); outcome = t .outcome; world = after k′ us′ s′ t })
     exchange-ends {k} {k′} {us} {us′} {s} {s′} {y} {q} {r} ask t is =
         goes-to _ (request-served k k′ us us′ s s′ y q r (ask .there) (ask .serves)) refl refl
         (ends-at _ (answer-taken k′ us′ s′ y r ∙ ap (λ (z : Turn). record { answer = 0; who = ended c (z .act); outcome = z .outcome; world = after k′ us′ s′ z }) is) refl)

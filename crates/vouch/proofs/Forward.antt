@@ -6,7 +6,7 @@ use mathlib.Core.List.{List, [], _∷_}
 use Prim.Native.Nat.{ℕ, _+_, _-_, _≤_, _<_}
 use native.Mathlib.Omega.{arith}
 use native.Mathlib.Decide.{ℕ-discrete}
-use borrow.Author.Tests.{lt-ltb, le-ltb, lt-leb}
+use borrow.Author.Tests.{lt-ltb, le-ltb, lt-leb, le-leb}
 use lib.Dec.{leb, ltb}
 use lib.ListN.{length, getD, set, length-set}
 use lib.Seq.{getD-set-same, getD-set-other}
@@ -30,8 +30,9 @@ use Rattle.layout.proofs.Sets.{rises}
 use Rattle.unit.specs.declared.shape.Shape.{Shape}
 use Rattle.unit.specs.State.{State, edge}
 use Rattle.unit.specs.Memory.{valid}
-use Rattle.unit.specs.Unit.{freshUnit, sealSays, sealTells, sealUnit}
-use Rattle.unit.proofs.Lasting.{seal-lasts}
+use Rattle.unit.specs.Unit.{freshUnit, says, after as unit-after, report}
+use Rattle.unit.specs.Unit.Request.{seal}
+use Rattle.unit.proofs.Lasting.{lasts, seal-rest}
 use Rattle.sequencer.specs.declared.Sequencer.{Sequencer}
 use Rattle.sequencer.specs.declared.Asked.the-variants.{Start}
 use Rattle.sequencer.specs.declared.Told.the-variants.{Number}
@@ -154,22 +155,23 @@ units-at-first w sound = record {
   kept = λ u low high. record { is-valid = sound .unit-valid u low high; low = sound .unit-low u low high; floor-same = refl; slots-same = refl };
 }
 
-seal-says : (M : State) (n : ℕ) → M .sealed ≤ n → sealSays M n ≡ 0
-unfolding sealSays
-seal-says M n le = pass _ _ (ltb n (M .sealed)) (le-ltb n (M .sealed) le)
+seal-says : (sh : Shape) (M : State) (e : Epoch) → M .sealed ≤ e .0 → says sh M (seal e) ≡ 0
+unfolding says
+seal-says sh M e le = pass _ _ (ltb (e .0) (M .sealed)) (le-ltb (e .0) (M .sealed) le)
 
-pub seal-tells : (M : State) (n : ℕ) → M .sealed ≤ n → edged M n ≡ Edge (record { 0 = edge M })
-unfolding edged sealTells
-seal-tells M n le = rw (seal-says M n le)
+pub seal-tells : (sh : Shape) (M : State) (e : Epoch) → M .sealed ≤ e .0 → edged sh M e ≡ Edge (record { 0 = edge M })
+unfolding edged report
+seal-tells sh M e le = rw (seal-says sh M e le)
 
-seal-keeps : {sh : Shape} {e : ℕ} {old M : State} → e ≤ lastEpoch → Kept sh e old M → Kept sh e old (sealUnit M e)
+seal-keeps : {sh : Shape} {e : ℕ} {old M : State} → e ≤ lastEpoch → Kept sh e old M → Kept sh e old (unit-after sh M (seal (record { 0 = e })))
 seal-keeps {sh} {e} {old} {M} few k =
-    let s = seal-lasts sh M e (k .is-valid) few in
+    let s = lasts sh M (k .is-valid) (seal (record { 0 = e })) (le-leb e lastEpoch few) in
+    let (floor, slots) = seal-rest sh M (record { 0 = e }) in
     record {
       is-valid = s .isValid;
-      low = omega (arith, s .done (seal-says M e (k .low)));
-      floor-same = s .floor ∙ k .floor-same;
-      slots-same = s .slots ∙ k .slots-same;
+      low = omega (arith, s .sealed (seal-says sh M _ (k .low)));
+      floor-same = floor ∙ k .floor-same;
+      slots-same = slots ∙ k .slots-same;
     }
 
 module _ (w : World) (us : List State) (u : ℕ) (few : w .held .epoch .0 ≤ lastEpoch) (on : UnitsOn w us) (low : 1 ≤ u) (high : u ≤ 8) where
@@ -177,7 +179,7 @@ module _ (w : World) (us : List State) (u : ℕ) (few : w .held .epoch .0 ≤ la
   e = w .held .epoch .0
 
   abbrev M : State
-  M = sealUnit (getD us (u - 1) (freshUnit u)) e
+  M = unit-after (shapeUnder (w .held)) (getD us (u - 1) (freshUnit u)) (seal (w .held .epoch))
 
   one-sealed : (v : ℕ) → 1 ≤ v → v ≤ 8 → Dec (v ≡ u) → Kept (shapeUnder (w .held)) e (unitAt w v) (getD (set us (u - 1) M) (v - 1) (freshUnit v))
   one-sealed v a b (yes same) =

@@ -21,7 +21,7 @@ use Rattle.history.specs.Words.{UnitNo, Pos, _∈_, Rising}
 use Rattle.history.specs.Words._∈_.{first, next}
 use Rattle.history.specs.Words.Rising.{rising-none, rising-more}
 use Rattle.history.specs.Maps.{Has, Good, Renewed, Successor}
-use Rattle.vouch.specs.Layouts.{mapOf}
+use Rattle.vouch.proofs.Layouts.{mapOf}
 
 -- ---- lists of units, as the layout's laws speak of them
 
@@ -46,7 +46,6 @@ set-rising l g p = is-good-set (setAt l p) (set-at-good l (good-says l g) p) .ri
 
 pub good-map : (l : Lay) → good l ≡ true → Good (mapOf l)
 good-map l g = record {
-  units-rise = up 0 (unitsOf (l .sets)) (units-rise (l .sets));
   set-rises = λ p. up 0 (setAt l p) (set-rising l g p);
   set-within = λ p u there. to-in (unitsOf (l .sets)) (at-in-units l (good-says l g) p u (of-in there));
 }

@@ -1,11 +1,9 @@
 -- The end of a reorganise with no other step between: offer and start, and it is done.
 -- Rests on Exchange and Forward.
 use mathlib.Core.Path.{_≡_, refl, ap, _∙_}
-use mathlib.Core.Bool.{cond}
 use mathlib.Core.List.{List, []}
 use Prim.Native.Nat.{ℕ, _+_, _≤_, _<_}
 use native.Mathlib.Omega.{arith}
-use lib.Dec.{eqb}
 use lib.ListN.{length}
 use Rattle.num.specs.Limits.{limit}
 use Rattle.num.specs.declared.Position.{Position}
@@ -22,15 +20,14 @@ use Rattle.sequencer.specs.Rules.{after as sequencer-after}
 use Rattle.client.specs.declared.Ask.the-variants as ask
 use Rattle.client.specs.declared.Reply.the-variants.{Fine}
 use Rattle.client.specs.declared.Client.{Client}
-use Rattle.client.specs.declared.Stage.the-variants.{Offering, Starting}
+use Rattle.client.specs.declared.Phase.the-variants.{Offering, Starting}
 use Rattle.client.specs.declared.turn.Turn.{Turn}
 use Rattle.client.specs.Message.{noPage, plain, offering}
-use Rattle.client.specs.Client.{inStage, planning, idle, lastNumber}
-use Rattle.client.specs.Turn.{numbered, next, sends, over, outcomeOf}
-use Rattle.client.specs.Turn.{ends as endsWith}
-use Rattle.client.specs.Way.{startFor}
-use Rattle.client.specs.Reorganise.{offers, allSealed, starts, onOffered, onStarted}
+use Rattle.client.specs.Client.{inPhase, planning, idle, lastNumber}
+use Rattle.client.specs.Turn.{numbered, next, sends, over}
+use Rattle.client.specs.Reorganise.{offers, allSealed, starts}
 use Rattle.client.specs.Take.{answered}
+use Rattle.client.proofs.Turns.{start-cases}
 use Rattle.rule.specs.World.{World}
 use Rattle.rule.specs.Serve.{telling, bare, withSequencer, asking, offeringTo, serve}
 use Rattle.rule.specs.Steps.{Done}
@@ -74,13 +71,12 @@ module _ (w : World) (c : ℕ) (sound : Sound w) (may : Conditions w c) where
 
   module _ (us : List State) (y : Client) (p : Position) (on : UnitsOn w us) (plans : y .plan ≡ plan) (few : p .0 ≤ limit) (left : y .used .0 + 3 ≤ lastNumber) where
     abbrev y₁ : Client
-    y₁ = inStage y Starting
+    y₁ = inPhase y Starting
 
     abbrev started : Sequencer
     started = record { epoch = plan .epoch; next = p }
 
     starts-so : starts y p ≡ sends y₁ (plain (ask.Start (plan .epoch) p))
-    unfolding starts
     starts-so = ap (λ (l : Layout). sends y₁ (plain (ask.Start (l .epoch) p))) plans
 
     later : s .epoch .0 < plan .epoch .0
@@ -98,11 +94,9 @@ module _ (w : World) (c : ℕ) (sound : Sound w) (may : Conditions w c) where
         }
 
     start-taken : answered (y₁ .stage) (numbered y₁ (next y₁)) (bare Fine) ≡ over (numbered y₁ (next y₁)) 0 noPage
-    unfolding answered inStage onStarted endsWith
     start-taken = refl
 
     start-left : y₁ .used .0 < lastNumber
-    unfolding inStage
     start-left = omega (arith, left)
 
     abbrev last-turn : Turn
@@ -112,14 +106,13 @@ module _ (w : World) (c : ℕ) (sound : Sound w) (may : Conditions w c) where
     last-done = record { answer = 0; who = c; outcome = last-turn .outcome; world = after w c (w .letters) plan us started last-turn }
 
     start-goes : GoesOn w c (w .letters) plan us s (starts y p) (exchanges 1 (length (w .letters))) last-done
-    unfolding exchanges over
+    unfolding exchanges
     start-goes =
         as-turn w c (w .letters) starts-so
         (sends-on w c (w .letters) y₁ (plain (ask.Start (plan .epoch) p)) start-left
         (exchange-ends w c (w .letters) (may .is-client) (sound .four-clients) (may .few-letters) start-asked last-turn start-taken))
 
     start-well : EndsWell last-done
-    unfolding over outcomeOf inStage numbered
     start-well = record {
       who = refl;
       done = refl;
@@ -136,13 +129,13 @@ module _ (w : World) (c : ℕ) (sound : Sound w) (may : Conditions w c) where
 
   module _ (us : List State) (y : Client) (p : Position) (on : UnitsOn w us) (plans : y .plan ≡ plan) (few : p .0 ≤ limit) (left : y .used .0 + 4 ≤ lastNumber) where
     abbrev y₂ : Client
-    y₂ = inStage (planning y plan) (Offering p)
+    y₂ = inPhase (planning y plan) (Offering p)
 
     offers-so : allSealed y p ≡ sends y₂ (offering plan)
-    unfolding allSealed startFor offers planning
     offers-so =
-        ap (λ (o : Started). cond (eqb (o .answer) 0) (offers (planning y (o .layout)) (o .first)) (endsWith y (o .answer)))
-        (ap (λ (l : Layout). startedAt l (p .0)) plans ∙ start-is w c sound may (p .0))
+        let starts-so = ap (λ (l : Layout). startedAt l (p .0)) plans ∙ start-is w c sound may (p .0) in
+        start-cases (λ (t : Turn). t ≡ sends y₂ (offering plan)) y p (λ fine. ap (λ (o : Started). offers (planning y (o .layout)) (o .first)) starts-so)
+        (λ failed. absurd (failed (ap (λ (o : Started). o .answer) starts-so)))
 
     offer-asked : Asked w c (w .letters) (may .is-client) (sound .four-clients) (may .few-letters) k plan us us s s y₂ (offering plan) (bare Fine)
     unfolding serve offeringTo
@@ -155,19 +148,15 @@ module _ (w : World) (c : ℕ) (sound : Sound w) (may : Conditions w c) where
     x₂ = numbered y₂ (next y₂)
 
     offer-taken : answered (y₂ .stage) x₂ (bare Fine) ≡ starts x₂ p
-    unfolding answered inStage onOffered
     offer-taken = refl
 
     offer-left : y₂ .used .0 < lastNumber
-    unfolding inStage planning
     offer-left = omega (arith, left)
 
     start-left-after : x₂ .used .0 + 3 ≤ lastNumber
-    unfolding inStage planning numbered
     start-left-after = omega (arith, left)
 
     plan-after : x₂ .plan ≡ plan
-    unfolding inStage planning numbered
     plan-after = refl
 
     pub offer-comes : Comes us (allSealed y p) 2

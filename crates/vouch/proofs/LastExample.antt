@@ -2,8 +2,9 @@
 -- nobody, and it gives up. Then the yard meets the conditions of the last sentence; client 1 reorganises, and its read of 0 ends with the page, from unit 1 alone.
 -- Rests on RunExample and Closing.
 use mathlib.Core.Path.{_≡_, refl, sym, ap, subst}
-use mathlib.Core.Bool.{Bool, true, false}
-use mathlib.Core.List.{List, [], _∷_}
+use mathlib.Core.Bool.{Bool, true, false, not}
+use mathlib.Core.List.{List, [], _∷_, _++_}
+use mathlib.Core.Logic.{⊎-elim}
 use Prim.Native.Nat.{ℕ, zero, suc, _<_}
 use native.Mathlib.Omega.{arith}
 use lib.ListN.{length, getD, replicate}
@@ -13,38 +14,40 @@ use Rattle.layout.specs.Places.{placed, setNumber, setAt, headOf, tailOf, after
 use Rattle.layout.specs.Plan.{without, badDrops, emptied, planned, lastStart, goodChains, reorganiseAnswer, plannedFor, isOpen, settleAnswer, settled, settledFirst, startedAt}
 use Rattle.layout.specs.Holder.{offerAnswer, offeredTo, fetchedFrom}
 use Rattle.layout.specs.Successor.{sublist, keepsSets, keepsSpans, lawful}
+use Rattle.layout.proofs.Sets.{in-none, in-cases}
 use Rattle.unit.specs.Shape.{shapeFor}
 use Rattle.unit.specs.State.{lookup, insert, lastEnd, edge}
-use Rattle.unit.specs.Unit.{writeSays, written, writeUnit, readSays, readShows, sealSays, sealTells, sealedAt, sealUnit}
+use Rattle.unit.specs.Kinds.{isPage, hasBytes, isGone}
+use Rattle.unit.specs.Unit.{written, sealedAt, says as unit-says, after as unit-after, report}
 use Rattle.sequencer.specs.Rules.{number, position, told, after as sequencer-after}
 use Rattle.client.specs.declared.Work.the-variants.{Append, Read}
 use Rattle.client.specs.declared.Stage.the-variants.{Idle}
 use Rattle.client.specs.declared.state.Job.{Job}
-use Rattle.client.specs.Client.{idle, inStage, atPosition, holding, planning, jobOf, reorganiseOf, noChange}
+use Rattle.client.specs.Client.{idle, jobOf, reorganiseOf, noChange}
 use Rattle.client.specs.Message.{dataLimit}
-use Rattle.client.specs.Turn.{outcomeOf, over, ends, numbered, sends}
-use Rattle.client.specs.Way.{headFor, tailFor, afterFor, unitAbove, planFor, startFor}
-use Rattle.client.specs.Append.{draws, writes, writesAt, onToken, writesOn, onWritten}
-use Rattle.client.specs.Read.{reads, onRead}
-use Rattle.client.specs.Job.{dataPage}
-use Rattle.client.specs.Begin.{beginAnswer, withJob, beginTurn, giveUp}
-use Rattle.client.specs.Take.{goesOn, holds, onFetched, answered, awaited, takes}
-use Rattle.client.specs.Reorganise.{seals, offers, allSealed, sealsOn, reorganises, larger, sealedAt as client-sealed-at, onSealed, starts, onOffered, onStarted}
 use Rattle.rule.specs.declared.Step.{Step}
 use Rattle.rule.specs.declared.Step.the-variants.{Drop, Stop, GiveUp}
-use Rattle.rule.specs.World.{clientAt}
-use Rattle.rule.specs.Steps.{without as letters-without, turned, beginNumber, begins, served, taken, delivered, delivers, drops, stops, givesUp, step}
-use Rattle.rule.specs.Serve.{kindOf, bytesOf, pageOf, shown, edged, asking, fetching, offeringTo, serve}
+use Rattle.rule.specs.World.{isUnit, running, clientAt}
+use Rattle.rule.specs.Steps.{without as letters-without, turned, beginNumber, begins, served, taken, delivered, delivers, drops as drops-letter, stops, givesUp, step}
+use Rattle.rule.specs.Serve.{kindOf, bytesOf, pageOf, shown, edged, asking, fetching, offeringTo, unitSays, unitAfter, serve}
+use Rattle.client.specs.Turn.{ends, sends}
+use Rattle.client.specs.Append.{writesAt, writesOn}
+use Rattle.client.specs.Begin.{beginTurn, giveUp}
+use Rattle.client.specs.Take.{holds, awaited, takes}
+use Rattle.client.specs.Reorganise.{allSealed, sealsOn, reorganises, larger, edgeTaken}
 use Rattle.rule.specs.Fresh.{freshUnits, freshWorld}
 use Rattle.history.specs.Words.Page.{bytes}
 use Rattle.history.specs.Words.Answer.{shows}
-use Rattle.vouch.specs.Runs.{Move, Moves, result, world, ReadEnds}
+use Rattle.vouch.specs.Runs.{Move, Moves, result, world, worldBy}
 use Rattle.vouch.specs.Runs.Moves.{_▸_}
 use Rattle.vouch.specs.Runs._≼_.{all-of, part-of}
-use Rattle.vouch.specs.Runs.Returns.{returns-page}
-use Rattle.vouch.specs.LastSentence.{stoppedFrom, WorkingUnit, Conditions, unitCount, Again}
-use Rattle.vouch.proofs.Closing.{answerable-again}
-use Rattle.vouch.proofs.RunExample.{l, l-good, deliver, begin, appending, append-done}
+use Rattle.vouch.specs.Demand.{ReadEnds}
+use Rattle.vouch.specs.LastSentence.{stoppedFrom, WorkingUnit, Conditions, DropsStopped, unitCount, Again}
+use Rattle.vouch.proofs.Fields as fields
+use Rattle.vouch.proofs.Fields.Returns.{returns-page}
+use Rattle.vouch.proofs.Stated.{read-stated}
+use Rattle.vouch.proofs.Closing.{last-sentence}
+use Rattle.vouch.proofs.RunExample.{l, l-good, deliver, begin, appending, page-7, append-done}
 
 abbrev step-of : Step → Move
 step-of s = record { does = s; job = jobOf Append }
@@ -59,10 +62,17 @@ stuck = appending ▸ deliver ▸ step-of (Stop 2) ▸ begin 2 read ▸ deliver 
 abbrev left : Moves
 left = stuck ▸ deliver ▸ step-of (GiveUp 2) ▸ step-of (Drop 0)
 
+-- it names unit 2 twice, and unit 5, which is not in the layout
+abbrev drops : List ℕ
+drops = 2 ∷ 5 ∷ 2 ∷ []
+
+abbrev reorganise : Job
+reorganise = reorganiseOf (record { count = 3; drops = drops ++ replicate 5 0; wish = noChange .wish })
+
 -- layout, unit 1's seal, offer, start; then layout and tail
 abbrev reading-again : Moves
 reading-again =
-    left ▸ begin 1 (reorganiseOf (record { count = 1; drops = 2 ∷ replicate 7 0; wish = noChange .wish }))
+    left ▸ begin 1 reorganise
     ▸ deliver ▸ deliver ▸ deliver ▸ deliver ▸ deliver ▸ deliver ▸ deliver ▸ deliver ▸ begin 1 read ▸ deliver ▸ deliver ▸ deliver
 
 -- the yard that is left, as far as the conditions speak of it
@@ -76,11 +86,16 @@ record Left : Type 0 where
   stopped-there : world l left .stopped ≡ false ∷ true ∷ replicate 6 false
   units-there : unitCount (world l left) ≡ 1
 
+record Ran : Type 0 where
+  yard-left : Left
+  answered : fields.ReadEnds l reading-again deliver 0 2 (shows (bytes (7 ∷ [])))
+  returns : result (world l reading-again) deliver .outcome ≡ record { number = 0; position = record { 0 = 0 }; epoch = record { 0 = 2 }; page = page-7 }
+
 -- by the rules, computed
-computed : Left × ReadEnds l reading-again deliver 0 2 (shows (bytes (7 ∷ [])))
-unfolding rising goodSet goodSets goodSpans firstAtZero used good _in?_ inSets usedFrom unitsOf padded layOf valueOf zeros tidyChain tidyChains blankRanges tidy goodValue placed setNumber setAt headOf tailOf after above placeAnswer unitsAt without badDrops emptied planned lastStart goodChains reorganiseAnswer plannedFor isOpen settleAnswer settled settledFirst startedAt offerAnswer offeredTo fetchedFrom sublist keepsSets keepsSpans lawful lookup insert lastEnd edge writeSays written writeUnit readSays readShows sealSays sealTells sealedAt sealUnit number position told sequencer-after idle inStage atPosition holding planning outcomeOf over ends numbered sends dataLimit shapeFor headFor tailFor afterFor unitAbove planFor startFor reads onRead draws writes writesAt onToken writesOn onWritten dataPage beginAnswer withJob beginTurn giveUp goesOn holds onFetched answered awaited takes seals offers allSealed sealsOn reorganises larger client-sealed-at onSealed starts onOffered onStarted letters-without turned beginNumber begins served taken delivered delivers drops stops givesUp step kindOf bytesOf pageOf shown edged asking fetching offeringTo serve freshUnits freshWorld world stoppedFrom
-computed = (
-  record {
+computed : Ran
+unfolding rising goodSet goodSets goodSpans firstAtZero used good _in?_ inSets usedFrom unitsOf padded layOf valueOf zeros tidyChain tidyChains blankRanges tidy goodValue placed setNumber setAt headOf tailOf after above placeAnswer unitsAt without badDrops emptied planned lastStart goodChains reorganiseAnswer plannedFor isOpen settleAnswer settled settledFirst startedAt offerAnswer offeredTo fetchedFrom sublist keepsSets keepsSpans lawful lookup insert lastEnd edge written sealedAt number position told sequencer-after idle sends dataLimit shapeFor writesAt writesOn beginTurn giveUp holds awaited takes allSealed sealsOn reorganises larger edgeTaken letters-without turned beginNumber begins served taken delivered delivers drops-letter stops givesUp step kindOf bytesOf pageOf shown edged asking fetching offeringTo unitSays unitAfter serve freshUnits freshWorld worldBy stoppedFrom isPage hasBytes isGone unit-says unit-after report
+computed = record {
+  yard-left = record {
     nobody = refl;
     idle-there = refl;
     used-there = refl;
@@ -89,19 +104,24 @@ computed = (
     sets-there = refl;
     stopped-there = refl;
     units-there = refl;
-  },
-  record {
+  };
+  answered = record {
     client = 1;
     position = record { 0 = 0 };
     ends = record { is-client = refl; was-busy = refl; work-is = refl; who-is = refl };
     position-is = refl;
     epoch-is = refl;
     returns = returns-page refl;
-  },
-)
+  };
+  returns = refl;
+}
 
-pub answered-again : ReadEnds l reading-again deliver 0 2 (shows (bytes (7 ∷ [])))
-answered-again = computed .1
+pub answered-again : ReadEnds step l reading-again deliver 0
+unfolding valueOf
+answered-again = read-stated l l-good refl (computed .answered)
+
+pub returned-again : result (world l reading-again) deliver .outcome ≡ record { number = 0; position = record { 0 = 0 }; epoch = record { 0 = 2 }; page = page-7 }
+returned-again = computed .returns
 
 works : (k : ℕ) → k < 1 → WorkingUnit (false ∷ true ∷ replicate 6 false) (getD ((1 ∷ 2 ∷ []) ∷ []) k [])
 unfolding _in?_
@@ -111,7 +131,7 @@ works (suc k) lt = absurd (omega arith)
 -- the conditions of the last sentence do not speak of nothing
 pub conditions : Conditions (world l left) 1
 conditions =
-    let there = computed .0 in
+    let there = computed .yard-left in
     record {
       is-client = refl;
       is-idle = there .idle-there;
@@ -123,6 +143,41 @@ conditions =
           (subst (λ (stopped : List Bool). (k : ℕ) → k < 1 → WorkingUnit stopped (getD ((1 ∷ 2 ∷ []) ∷ []) k [])) (sym (there .stopped-there)) works);
     }
 
-pub again : Again l left 1 (record { 0 = 0 }) (bytes (7 ∷ []))
+within : (u : ℕ) → (u in? drops) ≡ true → isUnit u ≡ true
+within u i = ⊎-elim one (λ rest. ⊎-elim five (λ last. ⊎-elim one (λ none. absurd (in-none u none)) (in-cases u 2 [] last)) (in-cases u 5 (2 ∷ []) rest)) (in-cases u 2 (5 ∷ 2 ∷ []) i)
+  where
+    one : u ≡ 2 → isUnit u ≡ true
+    one e = ap isUnit e
+
+    five : u ≡ 5 → isUnit u ≡ true
+    five e = ap isUnit e
+
+-- of units 1 and 2 it names the one that has stopped
+named : (u : ℕ) → (u in? (1 ∷ 2 ∷ [])) ≡ true → (u in? drops) ≡ not (running (false ∷ true ∷ replicate 6 false) u)
+unfolding _in?_
+named u i = ⊎-elim one (λ rest. ⊎-elim two (λ none. absurd (in-none u none)) (in-cases u 2 [] rest)) (in-cases u 1 (2 ∷ []) i)
+  where
+    one : u ≡ 1 → (u in? drops) ≡ not (running (false ∷ true ∷ replicate 6 false) u)
+    one e = subst (λ (v : ℕ). (v in? drops) ≡ not (running (false ∷ true ∷ replicate 6 false) v)) (sym e) refl
+
+    two : u ≡ 2 → (u in? drops) ≡ not (running (false ∷ true ∷ replicate 6 false) u)
+    two e = subst (λ (v : ℕ). (v in? drops) ≡ not (running (false ∷ true ∷ replicate 6 false) v)) (sym e) refl
+
+-- and this is a reorganise that drops the stopped units
+pub drops-stopped : DropsStopped (world l left) reorganise
+unfolding unitsOf usedFrom inSets _in?_
+drops-stopped =
+    let there = computed .yard-left in
+    record {
+      is-reorganise = refl;
+      drops-few = omega arith;
+      drops-within = within;
+      drops-are =
+          subst (λ (sets : List (List ℕ)). (u : ℕ) → (u in? unitsOf sets) ≡ true → (u in? drops) ≡ not (running (world l left .stopped) u)) (sym (there .sets-there))
+          (subst (λ (stopped : List Bool). (u : ℕ) → (u in? (1 ∷ 2 ∷ [])) ≡ true → (u in? drops) ≡ not (running stopped u)) (sym (there .stopped-there)) named);
+      no-range = refl;
+    }
+
+pub again : Again step l left 1 reorganise (record { 0 = 0 }) page-7
 unfolding valueOf
-again = answerable-again l l-good refl append-done (part-of (part-of (part-of (part-of (part-of (part-of (part-of all-of))))))) conditions
+again = last-sentence l l-good refl .answerable-again append-done (part-of (part-of (part-of (part-of (part-of (part-of (part-of all-of))))))) conditions drops-stopped

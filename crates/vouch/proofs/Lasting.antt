@@ -9,7 +9,8 @@ use Rattle.client.specs.declared.Response.{Response}
 use Rattle.client.specs.declared.Work.{Work}
 use Rattle.client.specs.declared.Work.the-variants as work
 use Rattle.client.specs.declared.Stage.{Stage}
-use Rattle.client.specs.declared.Stage.the-variants.{Idle, Fetching, Drawing, Writing, Reading, Filling, Looking, Trimming, Pruning, Sealing, Offering, Starting}
+use Rattle.client.specs.declared.Phase.the-variants.{Drawing, Writing, Reading, Filling, Looking, Trimming, Pruning, Sealing, Offering, Starting}
+use Rattle.client.specs.declared.Stage.the-variants.{Idle, Fetching, Working}
 use Rattle.client.specs.declared.Client.{Client}
 use Rattle.num.specs.declared.Position.{Position}
 use Rattle.history.specs.Words.{UnitNo, Pos, Epoch, Answer}
@@ -17,9 +18,9 @@ use Rattle.history.specs.History.{History, _⊑_, Mark, held}
 use Rattle.history.specs.History._⊑_.{here, later}
 use Rattle.history.specs.Events.{Run}
 use Rattle.history.specs.Events.Run.{run-step}
-use Rattle.history.proofs.Moments.{part-trans, noted-on, page-noted-on, laid-on, by-on}
+use Rattle.history.proofs.Moments.{part-trans, noted-on, mark-noted-on, laid-on, by-on, walked-on}
 use Rattle.history.proofs.Epochs.{held-rises}
-use Rattle.history.proofs.Edges.{seal-stays}
+use Rattle.history.proofs.Edges.{sealed-at-on, edge-at-on}
 use Rattle.vouch.proofs.Offers.{OfferOk}
 use Rattle.vouch.proofs.Meaning.{AskOk, Saw, Means, WorkOk, Fetched, Walking, StageOk}
 use Rattle.vouch.proofs.Meaning.AskOk.{fetch-ok, token-ok, write-ok, look-ok, trim-ok, prune-ok, seal-ok, offer-ok, start-ok}
@@ -39,7 +40,8 @@ module _ {h₁ h₂ : History} (run : Run h₂) (part : h₁ ⊑ h₂) where
     laid = laid-on part (ok .laid);
     next = ok .next;
     bound = ok .bound;
-    sealed-all = λ u has. seal-stays run part (ok .sealed-all u has);
+    sealed-all = λ u has. sealed-at-on run part (ok .sealed-all u has);
+    edges = λ u has. edge-at-on run part (ok .sealed-all u has) (ok .edges u has);
     start = ok .start;
   }
 
@@ -48,31 +50,10 @@ module _ {h₁ h₂ : History} (run : Run h₂) (part : h₁ ⊑ h₂) where
   pub ask-on : {a : Ask} {g : PageValue} {k : Layout} → AskOk h₁ a g k → AskOk h₂ a g k
   ask-on fetch-ok = fetch-ok
   ask-on token-ok = token-ok
-  ask-on (write-ok ok) = write-ok (record {
-    by = ok .by;
-    laid = laid-on part (ok .laid);
-    epoch-is = ok .epoch-is;
-    serves = ok .serves;
-    above = λ v before. by-on part (ok .above v before);
-    asked = page-noted-on part (ok .asked);
-  })
+  ask-on (write-ok ok) = write-ok (walked-on part ok)
   ask-on (look-ok ok) = look-ok (record { by = ok .by; laid = laid-on part (ok .laid); epoch-is = ok .epoch-is; serves = ok .serves })
-  ask-on (trim-ok ok) = trim-ok (record {
-    by = ok .by;
-    laid = laid-on part (ok .laid);
-    epoch-is = ok .epoch-is;
-    serves = ok .serves;
-    above = λ v before. by-on part (ok .above v before);
-    asked = noted-on part (ok .asked);
-  })
-  ask-on (prune-ok ok) = prune-ok (record {
-    by = ok .by;
-    laid = laid-on part (ok .laid);
-    epoch-is = ok .epoch-is;
-    has = ok .has;
-    above = λ v before p below. by-on part (ok .above v before p below);
-    asked = noted-on part (ok .asked);
-  })
+  ask-on (trim-ok ok) = trim-ok (walked-on part ok)
+  ask-on (prune-ok ok) = prune-ok (walked-on part ok)
   ask-on (seal-ok {e = e} low small) = seal-ok {e = e} (omega (arith, held-later run part)) small
   ask-on (offer-ok ok) = offer-ok (offer-on ok)
   ask-on (start-ok {e = e} low) = start-ok {e = e} (omega (arith, held-later run part))
@@ -94,7 +75,7 @@ module _ {h₁ h₂ : History} (run : Run h₂) (part : h₁ ⊑ h₂) where
   means-on means-no-cut = means-no-cut
   means-on (means-pruned mks) = means-pruned (λ p below. by-on part (mks p below))
   means-on means-no-prune = means-no-prune
-  means-on (means-edge s) = means-edge (seal-stays run part s)
+  means-on (means-edge s e) = means-edge (sealed-at-on run part s) (edge-at-on run part s e)
   means-on means-no-seal = means-no-seal
   means-on (means-installed {k = k} low) = means-installed {k = k} (omega (arith, held-later run part))
   means-on means-no-install = means-no-install
@@ -105,7 +86,7 @@ module _ {h₁ h₂ : History} (run : Run h₂) (part : h₁ ⊑ h₂) where
   work-on : (w : Work) (p : Position) (g : PageValue) → WorkOk h₁ w p g → WorkOk h₂ w p g
   work-on work.Append p g ok = noted-on part ok
   work-on (work.Read q) p g ok = ok
-  work-on (work.Fill q) p g (asked, low) = (page-noted-on part asked, low)
+  work-on (work.Fill q) p g (asked, low) = (mark-noted-on part asked, low)
   work-on (work.Trim q) p g (asked, low) = (noted-on part asked, low)
   work-on (work.Prune q) p g ok = noted-on part ok
   work-on work.Reorganise p g ok = tt
@@ -119,13 +100,13 @@ module _ {h₁ h₂ : History} (run : Run h₂) (part : h₁ ⊑ h₂) where
   pub stage-on : (c : Client) (st : Stage) → StageOk h₁ c st → StageOk h₂ c st
   stage-on c Idle ok = tt
   stage-on c Fetching ok = work-on (c .work) (c .position) (c .page) ok
-  stage-on c (Drawing n) ok = record { is-append = ok .is-append; fetched = fetched-on (ok .fetched); asked = noted-on part (ok .asked) }
-  stage-on c (Writing u n) ok = record { is-append = ok .is-append; walk = walking-on (ok .walk); asked = noted-on part (ok .asked) }
-  stage-on c (Reading u) ok = record { is-read = ok .is-read; fetched = fetched-on (ok .fetched); low = ok .low; is-tail = ok .is-tail }
-  stage-on c (Filling u) ok = record { filled = ok .filled; is-fill = ok .is-fill; walk = walking-on (ok .walk); asked = page-noted-on part (ok .asked) }
-  stage-on c (Looking u) ok = record { filled = ok .filled; is-fill = ok .is-fill; fetched = fetched-on (ok .fetched); low = ok .low; serves = ok .serves; is-head = ok .is-head }
-  stage-on c (Trimming u) ok = record { trimmed-at = ok .trimmed-at; is-trim = ok .is-trim; walk = walking-on (ok .walk); asked = noted-on part (ok .asked) }
-  stage-on c (Pruning u) ok = record {
+  stage-on c (Working (Drawing n)) ok = record { is-append = ok .is-append; fetched = fetched-on (ok .fetched); asked = noted-on part (ok .asked) }
+  stage-on c (Working (Writing u n)) ok = record { is-append = ok .is-append; walk = walking-on (ok .walk); asked = noted-on part (ok .asked) }
+  stage-on c (Working (Reading u)) ok = record { is-read = ok .is-read; fetched = fetched-on (ok .fetched); low = ok .low; is-tail = ok .is-tail }
+  stage-on c (Working (Filling u)) ok = record { filled = ok .filled; is-fill = ok .is-fill; walk = walking-on (ok .walk); asked = mark-noted-on part (ok .asked) }
+  stage-on c (Working (Looking u)) ok = record { filled = ok .filled; is-fill = ok .is-fill; fetched = fetched-on (ok .fetched); low = ok .low; serves = ok .serves; is-head = ok .is-head }
+  stage-on c (Working (Trimming u)) ok = record { trimmed-at = ok .trimmed-at; is-trim = ok .is-trim; walk = walking-on (ok .walk); asked = noted-on part (ok .asked) }
+  stage-on c (Working (Pruning u)) ok = record {
     pruned-to = ok .pruned-to;
     is-prune = ok .is-prune;
     fetched = fetched-on (ok .fetched);
@@ -133,12 +114,13 @@ module _ {h₁ h₂ : History} (run : Run h₂) (part : h₁ ⊑ h₂) where
     behind = λ v has lt p below. by-on part (ok .behind v has lt p below);
     asked = noted-on part (ok .asked);
   }
-  stage-on c (Sealing u x) ok = record {
+  stage-on c (Working (Sealing u x)) ok = record {
     is-reorganise = ok .is-reorganise;
     fetched = fetched-on (ok .fetched);
     plan-fine = ok .plan-fine;
     plan-is = ok .plan-is;
-    behind = λ v has lt. seal-stays run part (ok .behind v has lt);
+    sealed-behind = λ v has lt. sealed-at-on run part (ok .sealed-behind v has lt);
+    edges-behind = λ v has lt. edge-at-on run part (ok .sealed-behind v has lt) (ok .edges-behind v has lt);
   }
-  stage-on c (Offering p) ok = record { is-reorganise = ok .is-reorganise; fetched = fetched-on (ok .fetched); offer = offer-on (ok .offer) }
-  stage-on c Starting ok = record { is-reorganise = ok .is-reorganise; fetched = fetched-on (ok .fetched); low = omega (arith, held-later run part, ok .low) }
+  stage-on c (Working (Offering p)) ok = record { is-reorganise = ok .is-reorganise; fetched = fetched-on (ok .fetched); offer = offer-on (ok .offer) }
+  stage-on c (Working Starting) ok = record { is-reorganise = ok .is-reorganise; fetched = fetched-on (ok .fetched); low = omega (arith, held-later run part, ok .low) }

@@ -14,7 +14,8 @@ use Rattle.unit.specs.Unit.{freshUnit}
 use Rattle.sequencer.specs.declared.Sequencer.{Sequencer}
 use Rattle.client.specs.declared.Client.{Client}
 use Rattle.client.specs.declared.Stage.{Stage}
-use Rattle.client.specs.declared.Stage.the-variants.{Idle, Fetching, Drawing, Writing, Reading, Filling, Looking, Trimming, Pruning, Sealing, Offering, Starting}
+use Rattle.client.specs.declared.Phase.the-variants.{Drawing, Writing, Reading, Filling, Looking, Trimming, Pruning, Sealing, Offering, Starting}
+use Rattle.client.specs.declared.Stage.the-variants.{Idle, Fetching, Working}
 use Rattle.client.specs.Client.{fresh}
 use Rattle.rule.specs.declared.Letter.{Letter}
 use Rattle.rule.specs.World.{shapeUnder, unitAt, clientAt}
@@ -22,7 +23,7 @@ use Rattle.rule.specs.Lent.{Lent, Outcomes, fetched, lentNumber, seen, laid, le
 use Rattle.rule.specs.Fresh.{freshWorld, freshLent, freshNumberOf, freshNumber, makes}
 use Rattle.rule.proofs.Leaving.{Fit, Told, Lendable, Room, all-from, left-room, left-seen, left-number}
 use Rattle.history.specs.History.{History}
-use Rattle.vouch.specs.Runs.{Move, Moves, result, world}
+use Rattle.vouch.specs.Runs.{Move, Moves, result, world, worldBy}
 use Rattle.vouch.specs.Runs.Moves.{none, _▸_}
 use Rattle.vouch.specs.Lending.{lent, stepped, Lends}
 use Rattle.vouch.proofs.Meaning.{StageOk}
@@ -44,16 +45,16 @@ lent-next l ms m = refl
 stage-good : (h : History) (c : Client) (st : Stage) → StageOk h c st → (not (fetched st) || goodValue (c .layout)) ≡ true
 stage-good h c Idle ok = refl
 stage-good h c Fetching ok = refl
-stage-good h c (Drawing n) ok = ok .fetched .is-good
-stage-good h c (Writing u n) ok = ok .walk .fetched .is-good
-stage-good h c (Reading u) ok = ok .fetched .is-good
-stage-good h c (Filling u) ok = ok .walk .fetched .is-good
-stage-good h c (Looking u) ok = ok .fetched .is-good
-stage-good h c (Trimming u) ok = ok .walk .fetched .is-good
-stage-good h c (Pruning u) ok = ok .fetched .is-good
-stage-good h c (Sealing u x) ok = ok .fetched .is-good
-stage-good h c (Offering p) ok = ok .fetched .is-good
-stage-good h c Starting ok = ok .fetched .is-good
+stage-good h c (Working (Drawing n)) ok = ok .fetched .is-good
+stage-good h c (Working (Writing u n)) ok = ok .walk .fetched .is-good
+stage-good h c (Working (Reading u)) ok = ok .fetched .is-good
+stage-good h c (Working (Filling u)) ok = ok .walk .fetched .is-good
+stage-good h c (Working (Looking u)) ok = ok .fetched .is-good
+stage-good h c (Working (Trimming u)) ok = ok .walk .fetched .is-good
+stage-good h c (Working (Pruning u)) ok = ok .fetched .is-good
+stage-good h c (Working (Sealing u x)) ok = ok .fetched .is-good
+stage-good h c (Working (Offering p)) ok = ok .fetched .is-good
+stage-good h c (Working Starting) ok = ok .fetched .is-good
 
 -- ---- every run
 
@@ -103,7 +104,7 @@ module _ (l : Layout) (good-layout : goodValue l ≡ true) (first : l .epoch .0 
       rw (zero-number, sees)
 
   is-left : (ms : Moves) → Left ms
-  unfolding lent world freshLent freshWorld left laid done
+  unfolding lent worldBy freshLent freshWorld left laid done
   is-left none = record {
     before = freshLent l;
     room = record { long = refl; count = omega arith };

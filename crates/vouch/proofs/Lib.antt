@@ -1,4 +1,8 @@
--- Layouts as maps, units and their history, the holder.
+-- Layouts as maps, pages, and what the proofs say of a run.
+pub mod Layouts
+pub mod Carried
+pub mod Fields
+-- Units and their history, the holder.
 pub mod GoodMap
 pub mod Walks
 pub mod UnitIs
@@ -26,25 +30,42 @@ pub mod Asking
 pub mod Delivering
 pub mod Stepping
 pub mod Coming
-pub mod Taking
-pub mod Ending
-pub mod Demand
-pub mod RunExample
-pub mod AcrossExample
-pub mod Numbered
-pub mod Lending
+-- Operations and the fields of their clients; how a read ends; demand 3.
 pub mod Exchange
 pub mod Beginning
+pub mod Begun
+pub mod Steady
+pub mod Went
+pub mod Operations
+pub mod EndingSteps
+pub mod ReadEnding
+pub mod Demand
+pub mod PageValues
+pub mod Fitting
 pub mod Reread
+pub mod Reaching
+pub mod Stated
+pub mod Numbered
+pub mod Lending
+-- The last sentence.
 pub mod Dropping
 pub mod Forward
+pub mod Drops
 pub mod Installing
 pub mod Reorganising
 pub mod LastSentence
 pub mod Again
 pub mod Soundness
 pub mod Closing
-pub mod LastExample
 -- Over both shapes.
 pub mod Shapes
+-- Runs that are computed, and shams refuted by some.
+pub mod RunExample
+pub mod AcrossExample
+pub mod LastExample
 pub mod LargeExample
+pub mod Wrapped
+pub mod ShamRuns
+pub mod Shams
+-- Over runs of the code.
+pub mod CodeRuns

@@ -14,39 +14,46 @@ use Rattle.layout.specs.Holder.{offeredTo}
 use Rattle.unit.specs.Shape.{shapeFor}
 use Rattle.unit.proofs.Shapes.{sized}
 use Rattle.unit.specs.State.{State}
-use Rattle.unit.specs.Unit.{freshUnit, writeSays, writeUnit, trimSays, trimUnit, pruneSays, pruneUnit, sealUnit}
+use Rattle.unit.specs.Unit.{freshUnit, says, after as unit-after}
+use Rattle.unit.proofs.Answers.{after-read}
 use Rattle.sequencer.specs.declared.Sequencer.{Sequencer}
 use Rattle.sequencer.specs.declared.Asked.{Asked}
 use Rattle.sequencer.specs.declared.Asked.the-variants as asked
 use Rattle.sequencer.specs.Rules.{number, becomes, after}
 use Rattle.client.specs.declared.Page.{Page as PageValue}
 use Rattle.client.specs.declared.Ask.{Ask}
-use Rattle.client.specs.declared.Ask.the-variants.{Fetch, Token, Write, Read, Trim, Prune, Seal, Offer, Start}
+use Rattle.client.specs.declared.UnitAsk.the-variants.{Write, Read, Trim, Prune, Seal}
+use Rattle.client.specs.declared.Ask.the-variants.{Fetch, Token, Unit, Offer, Start}
 use Rattle.client.specs.declared.Reply.{Reply}
+use Rattle.client.specs.declared.Reply.the-variants.{Fine, Refused}
 use Rattle.client.specs.declared.Response.{Response}
 use Rattle.rule.specs.World.{World, shapeUnder, unitAt, isUnit}
-use Rattle.rule.specs.Serve.{Served, saying, bare, kindOf, bytesOf, shown, edged, withUnit, withSequencer, withHeld, asking, offeringTo, serve, unserved}
-use Rattle.history.specs.Words.{UnitNo, Pos, Epoch, Page}
+use Rattle.rule.specs.Serve.{ServedWorld, saying, bare, kindOf, bytesOf, shown, edged, withUnit, withSequencer, withHeld, asking, offeringTo, requestOf, unitSays, unitAfter, serve, unserved}
+use Rattle.history.specs.Words.{UnitNo, Pos, Epoch}
 use Rattle.history.specs.Maps.{Map}
-use Rattle.history.specs.History.{Note, History, _⊑_, Noted, Laid, held}
-use Rattle.history.specs.History.Event.{write, trim, prune, seal, install}
+use Rattle.history.specs.History.{Note, Stretch, Covers, History, _⊑_, Noted, Laid, Mark, MarkedBy, held}
+use Rattle.history.specs.History.Stretch.{only, upTo}
+use Rattle.history.specs.History.Covers.{covers-only, covers-upTo}
+use Rattle.history.specs.History.Mark.{gone}
+use Rattle.history.specs.History.Event.{mark, seal, install}
 use Rattle.history.specs.History.History.{_▹_}
 use Rattle.history.specs.History._⊑_.{here, later}
 use Rattle.history.specs.History.Noted.{noted-before}
-use Rattle.history.specs.Events.{Run}
+use Rattle.history.specs.Events.{MayMark, Run}
 use Rattle.history.specs.Events.Run.{run-step}
-use Rattle.vouch.specs.Layouts.{mapOf}
-use Rattle.vouch.specs.Pages.{carried}
+use Rattle.vouch.proofs.Layouts.{mapOf}
+use Rattle.vouch.proofs.Carried.{carried}
+use Rattle.history.proofs.Moments.{marked-by-now}
 use Rattle.history.proofs.Epochs.{held-laid, held-rises, laid-good}
-use Rattle.vouch.proofs.UnitIs.{UnitIs, WriteDone, TrimDone, PruneDone, SealDone, ReadDone}
+use Rattle.history.proofs.Edges.{sealed-at-now}
+use Rattle.vouch.proofs.UnitIs.{UnitIs, WriteDone, MarkDone, SealDone, ReadDone}
 use Rattle.vouch.proofs.UnitIs.WriteDone.{did-write, was-written, no-write}
-use Rattle.vouch.proofs.UnitIs.TrimDone.{did-trim, no-trim}
-use Rattle.vouch.proofs.UnitIs.PruneDone.{did-prune, no-prune}
+use Rattle.vouch.proofs.UnitIs.MarkDone.{did-mark, no-mark}
 use Rattle.vouch.proofs.UnitIs.SealDone.{did-seal, no-seal}
 use Rattle.vouch.proofs.UnitIs.ReadDone.{read-page, read-trimmed, read-unwritten, no-read}
-use Rattle.vouch.proofs.Untouched.{install-is, write-others, trim-others, prune-others, seal-others}
-use Rattle.vouch.proofs.Writing.{write-does, write-marks}
-use Rattle.vouch.proofs.Trimming.{trim-does, trim-marks, prune-does, prune-marks}
+use Rattle.vouch.proofs.Untouched.{install-is, mark-others, seal-others}
+use Rattle.vouch.proofs.Writing.{write-does}
+use Rattle.vouch.proofs.Trimming.{trim-does, prune-does}
 use Rattle.vouch.proofs.Sealing.{seal-does}
 use Rattle.vouch.proofs.Reading.{read-does}
 use Rattle.vouch.proofs.Offers.{OfferDone, offer-does, fetch-does}
@@ -67,7 +74,7 @@ pub record Machines (h : History) (w : World) : Type 0 where
   pub units : (u : UnitNo) → 1 ≤ u → u ≤ 8 → UnitIs (shapeUnder (w .held)) h u (unitAt w u)
 
 -- what came of a request that was served
-pub record ServedOk (h : History) (w : World) (a : Ask) (g : PageValue) (k : Layout) (v : Served) : Type 0 where
+pub record ServedOk (h : History) (w : World) (a : Ask) (g : PageValue) (k : Layout) (v : ServedWorld) : Type 0 where
   pub now : History
   pub part : h ⊑ now
   pub machines : Machines now (v .world)
@@ -91,14 +98,8 @@ with-unit {h} {now} {w} {u} M m run same low high is others = record {
 }
 
 -- only `ask` notes anything
-write-quiet : {h : History} {u : UnitNo} {L : Map} {p : Pos} {X : Page} (n : Note) → Noted (h ▹ write u L p X) n → Noted h n
-write-quiet n (noted-before noted) = noted
-
-trim-quiet : {h : History} {u : UnitNo} {L : Map} {p : Pos} (n : Note) → Noted (h ▹ trim u L p) n → Noted h n
-trim-quiet n (noted-before noted) = noted
-
-prune-quiet : {h : History} {u : UnitNo} {L : Map} {p : Pos} (n : Note) → Noted (h ▹ prune u L p) n → Noted h n
-prune-quiet n (noted-before noted) = noted
+mark-quiet : {h : History} {u : UnitNo} {e : Epoch} {ps : Stretch} {mk : Mark} (n : Note) → Noted (h ▹ mark u e ps mk) n → Noted h n
+mark-quiet n (noted-before noted) = noted
 
 seal-quiet : {h : History} {u : UnitNo} {e : Epoch} (n : Note) → Noted (h ▹ seal u e) n → Noted h n
 seal-quiet n (noted-before noted) = noted
@@ -108,7 +109,7 @@ install-quiet n (noted-before noted) = noted
 
 module _ {h : History} {w : World} (m : Machines h w) {u : UnitNo} (low : 1 ≤ u) (high : u ≤ 8) (g : PageValue) (k : Layout) where
   -- nothing happened, whatever was answered
-  no-event : (a : Ask) (r : Reply) (M : State) → UnitIs (shapeUnder (w .held)) h u M → Means h a g k (bare r) → ServedOk h w a g k (record { response = bare r; world = withUnit w u M })
+  no-event : (a : Ask) (r : Response) (M : State) → UnitIs (shapeUnder (w .held)) h u M → Means h a g k r → ServedOk h w a g k (record { response = r; world = withUnit w u M })
   no-event a r M is means = record {
     now = h;
     part = here;
@@ -118,62 +119,48 @@ module _ {h : History} {w : World} (m : Machines h w) {u : UnitNo} (low : 1 ≤ 
     quiet = λ n noted. noted;
   }
 
+  -- the unit took a mark
+  took : (a : Ask) {e : Epoch} {ps : Stretch} {mk : Mark} (M : State) → MayMark h u e ps mk → UnitIs (shapeUnder (w .held)) (h ▹ mark u e ps mk) u M →
+      Means (h ▹ mark u e ps mk) a g k (bare Fine) → ServedOk h w a g k (record { response = bare Fine; world = withUnit w u M })
+  unfolding held
+  took a {e} {ps} {mk} M may is means = record {
+    now = h ▹ mark u e ps mk;
+    part = later here;
+    machines = with-unit M m (run-step (m .run) may) refl low high is (λ v ne old. mark-others old ne);
+    means = means;
+    clients-same = refl;
+    quiet = mark-quiet;
+  }
+
   wrote : (L : Map) (e : EpochValue) (p : Position) → L .epoch ≡ e .0 → Laid h L → (r : Reply) (M : State) → WriteDone (shapeUnder (w .held)) h u L (p .0) (carried g) (e .0) M r →
-      ServedOk h w (Write u e p) g k (record { response = bare r; world = withUnit w u M })
-  unfolding held
-  wrote L e p at laid r M (did-write may is) = record {
-    now = h ▹ write u L (p .0) (carried g);
-    part = later here;
-    machines = with-unit M m (run-step (m .run) may) refl low high is (λ v ne old. write-others old ne);
-    means = means-wrote (write-marks at);
-    clients-same = refl;
-    quiet = write-quiet;
-  }
-  wrote L e p at laid r M (was-written has is) = no-event (Write u e p) r M is (means-written (record { by = L; laid = laid; epoch-is = at; has-it = has }))
-  wrote L e p at laid r M (no-write n0 n6 is) = no-event (Write u e p) r M is (means-no-write n6)
+      ServedOk h w (Unit u (Write e p)) g k (record { response = bare r; world = withUnit w u M })
+  wrote L e p at laid r M (did-write may is) = took (Unit u (Write e p)) M may is (means-wrote (marked-by-now covers-only))
+  wrote L e p at laid r M (was-written has is) = no-event (Unit u (Write e p)) (bare r) M is (means-written (record { by = L; laid = laid; epoch-is = at; has-it = has }))
+  wrote L e p at laid r M (no-write n0 n6 is) = no-event (Unit u (Write e p)) (bare r) M is (means-no-write n6)
 
-  cut : (L : Map) (e : EpochValue) (p : Position) → L .epoch ≡ e .0 → (r : Reply) (M : State) → TrimDone (shapeUnder (w .held)) h u L (p .0) M r →
-      ServedOk h w (Trim u e p) g k (record { response = bare r; world = withUnit w u M })
-  unfolding held
-  cut L e p at r M (did-trim may is) = record {
-    now = h ▹ trim u L (p .0);
-    part = later here;
-    machines = with-unit M m (run-step (m .run) may) refl low high is (λ v ne old. trim-others old ne);
-    means = means-cut (trim-marks at);
-    clients-same = refl;
-    quiet = trim-quiet;
-  }
-  cut L e p at r M (no-trim n0 is) = no-event (Trim u e p) r M is means-no-cut
+  -- a trim or a prune
+  cut : (a : Ask) (e : Epoch) (ps : Stretch) → ((now : History) → ((p : Pos) → Covers ps p → MarkedBy now u p gone e) → Means now a g k (bare Fine)) → ((n : ℕ) → Means h a g k (bare (Refused n))) →
+      (r : Reply) (M : State) → MarkDone (shapeUnder (w .held)) h u e ps gone M r → ServedOk h w a g k (record { response = bare r; world = withUnit w u M })
+  cut a e ps fine refused r M (did-mark may is) = took a M may is (fine (h ▹ mark u e ps gone) (λ p there. marked-by-now there))
+  cut a e ps fine refused r M (no-mark {n = n} n0 is) = no-event a (bare r) M is (refused n)
 
-  pruned : (L : Map) (e : EpochValue) (q : Position) → L .epoch ≡ e .0 → (r : Reply) (M : State) → PruneDone (shapeUnder (w .held)) h u L (q .0) M r →
-      ServedOk h w (Prune u e q) g k (record { response = bare r; world = withUnit w u M })
+  was-sealed : (e : EpochValue) (r : Reply) (M : State) → SealDone (shapeUnder (w .held)) h u (e .0) M r → ServedOk h w (Unit u (Seal e)) g k (record { response = bare r; world = withUnit w u M })
   unfolding held
-  pruned L e q at r M (did-prune may is) = record {
-    now = h ▹ prune u L (q .0);
-    part = later here;
-    machines = with-unit M m (run-step (m .run) may) refl low high is (λ v ne old. prune-others old ne);
-    means = means-pruned (λ p below. prune-marks at below);
-    clients-same = refl;
-    quiet = prune-quiet;
-  }
-  pruned L e q at r M (no-prune n0 is) = no-event (Prune u e q) r M is means-no-prune
-
-  was-sealed : (e : EpochValue) (r : Reply) (M : State) → SealDone (shapeUnder (w .held)) h u (e .0) M r → ServedOk h w (Seal u e) g k (record { response = bare r; world = withUnit w u M })
-  unfolding held
-  was-sealed e r M (did-seal may is answer few) = record {
+  was-sealed e r M (did-seal may is edge few) = record {
     now = h ▹ seal u (e .0);
     part = later here;
     machines = with-unit M m (run-step (m .run) may) refl low high is (λ v ne old. seal-others old ne);
-    means = means-edge answer;
+    means = means-edge sealed-at-now edge;
     clients-same = refl;
     quiet = seal-quiet;
   }
-  was-sealed e r M (no-seal n0 is) = no-event (Seal u e) r M is means-no-seal
+  was-sealed e r M (no-seal n0 is) = no-event (Unit u (Seal e)) (bare r) M is means-no-seal
 
-  looked : (L : Map) (e : EpochValue) (p : Position) → L .epoch ≡ e .0 → (r : Response) → ReadDone h u L (p .0) r → ServedOk h w (Read u e p) g k (record { response = r; world = w })
-  looked L e p at r done = record { now = h; part = here; machines = m; means = go r done; clients-same = refl; quiet = λ n noted. noted }
+  looked : (L : Map) (e : EpochValue) (p : Position) → L .epoch ≡ e .0 → (r : Response) → ReadDone h u L (p .0) r →
+      ServedOk h w (Unit u (Read e p)) g k (record { response = r; world = withUnit w u (unitAt w u) })
+  looked L e p at r done = no-event (Unit u (Read e p)) r (unitAt w u) (m .units u low high) (go r done)
     where
-      go : (r : Response) → ReadDone h u L (p .0) r → Means h (Read u e p) g k r
+      go : (r : Response) → ReadDone h u L (p .0) r → Means h (Unit u (Read e p)) g k r
       go r (read-page takes answers) = means-shown (record { moment = h; past = here; by = L; epoch-is = at; takes = takes; answers = answers })
       go r (read-trimmed takes answers) = means-trimmed (record { moment = h; past = here; by = L; epoch-is = at; takes = takes; answers = answers })
       go r (read-unwritten takes answers) = means-unwritten (record { moment = h; past = here; by = L; epoch-is = at; takes = takes; answers = answers })
@@ -232,7 +219,7 @@ sequencer-after {h} {w} a g k q m low means = record {
     go false = m .sequencer-low
 
 pub serve-ok : {h : History} {w : World} {a : Ask} {g : PageValue} {k : Layout} → Machines h w → unserved (w .stopped) a ≡ false → AskOk h a g k → ServedOk h w a g k (serve w a g k)
-unfolding serve offeringTo
+unfolding unitSays unitAfter serve offeringTo
 serve-ok {h} {w} {g = g} {k} m to fetch-ok = record {
   now = h;
   part = here;
@@ -244,25 +231,27 @@ serve-ok {h} {w} {g = g} {k} m to fetch-ok = record {
 serve-ok {w = w} {g = g} {k} m to (token-ok {e = e}) = sequencer-after (Token e) g k (asked.Token e) m (m .sequencer-low) (λ r. means-token)
 serve-ok {h} {w} {g = g} {k} m to (write-ok {u = u} {e} {p} ok) =
     let range = unit-range u (unit-runs (isUnit u) (not (getD (w .stopped) (u - 1) true)) to) in
-    let has = laid-good (m .run) (ok .laid) .set-within (p .0) u (ok .serves) in
-    wrote m (range .0) (range .1) g k (ok .by) e p (ok .epoch-is) (ok .laid) (saying (writeSays (shapeUnder (w .held)) (unitAt w u) (e .0) (p .0) (kindOf g) (bytesOf g))) (writeUnit (shapeUnder (w .held)) (unitAt w u) (e .0) (p .0) (kindOf g) (bytesOf g))
-    (write-does (m .run) (m .units u (range .0) (range .1)) (ok .laid) has (ok .epoch-is) (p .0) (kindOf g) (bytesOf g) (ok .above) (ok .asked))
+    wrote m (range .0) (range .1) g k (ok .by) e p (ok .epoch-is) (ok .laid) (saying (says (shapeUnder (w .held)) (unitAt w u) (requestOf (Write e p) g))) (unit-after (shapeUnder (w .held)) (unitAt w u) (requestOf (Write e p) g))
+    (write-does (m .run) (m .units u (range .0) (range .1)) (p .0) (kindOf g) (bytesOf g) ok)
 serve-ok {h} {w} {g = g} {k} m to (look-ok {u = u} {e} {p} ok) =
     let range = unit-range u (unit-runs (isUnit u) (not (getD (w .stopped) (u - 1) true)) to) in
     let has = laid-good (m .run) (ok .laid) .set-within (p .0) u (ok .serves) in
-    looked m (range .0) (range .1) g k (ok .by) e p (ok .epoch-is) (shown (unitAt w u) (e .0) (p .0)) (read-does (sized (w .held .shape) .page) (m .units u (range .0) (range .1)) (ok .laid) has (ok .epoch-is) (p .0))
+    let r = shown (shapeUnder (w .held)) (unitAt w u) e p in
+    subst (λ (M : State). ServedOk h w (Unit u (Read e p)) g k (record { response = r; world = withUnit w u M })) (sym (after-read (shapeUnder (w .held)) (unitAt w u) e p))
+    (looked m (range .0) (range .1) g k (ok .by) e p (ok .epoch-is) r (read-does (sized (w .held .shape) .page) (m .units u (range .0) (range .1)) (ok .laid) has (ok .epoch-is) p))
 serve-ok {h} {w} {g = g} {k} m to (trim-ok {u = u} {e} {p} ok) =
     let range = unit-range u (unit-runs (isUnit u) (not (getD (w .stopped) (u - 1) true)) to) in
-    let has = laid-good (m .run) (ok .laid) .set-within (p .0) u (ok .serves) in
-    cut m (range .0) (range .1) g k (ok .by) e p (ok .epoch-is) (saying (trimSays (shapeUnder (w .held)) (unitAt w u) (e .0) (p .0))) (trimUnit (shapeUnder (w .held)) (unitAt w u) (e .0) (p .0))
-    (trim-does (m .units u (range .0) (range .1)) (ok .laid) has (ok .epoch-is) (p .0) (ok .above) (ok .asked))
+    cut m (range .0) (range .1) g k (Unit u (Trim e p)) (e .0) (only (p .0)) (λ now mks. means-cut (mks (p .0) covers-only)) (λ n. means-no-cut)
+    (saying (says (shapeUnder (w .held)) (unitAt w u) (requestOf (Trim e p) g))) (unit-after (shapeUnder (w .held)) (unitAt w u) (requestOf (Trim e p) g))
+    (trim-does (m .units u (range .0) (range .1)) (p .0) ok)
 serve-ok {h} {w} {g = g} {k} m to (prune-ok {u = u} {e} {p} ok) =
     let range = unit-range u (unit-runs (isUnit u) (not (getD (w .stopped) (u - 1) true)) to) in
-    pruned m (range .0) (range .1) g k (ok .by) e p (ok .epoch-is) (saying (pruneSays (unitAt w u) (e .0) (p .0))) (pruneUnit (unitAt w u) (e .0) (p .0))
-    (prune-does (m .units u (range .0) (range .1)) (ok .laid) (ok .has) (ok .epoch-is) (p .0) (ok .above) (ok .asked))
+    cut m (range .0) (range .1) g k (Unit u (Prune e p)) (e .0) (upTo (p .0)) (λ now mks. means-pruned (λ q below. mks q (covers-upTo below))) (λ n. means-no-prune)
+    (saying (says (shapeUnder (w .held)) (unitAt w u) (requestOf (Prune e p) g))) (unit-after (shapeUnder (w .held)) (unitAt w u) (requestOf (Prune e p) g))
+    (prune-does (m .units u (range .0) (range .1)) (p .0) ok)
 serve-ok {h} {w} {g = g} {k} m to (seal-ok {u = u} {e} low small-epoch) =
     let range = unit-range u (unit-runs (isUnit u) (not (getD (w .stopped) (u - 1) true)) to) in
-    was-sealed m (range .0) (range .1) g k e (edged (unitAt w u) (e .0)) (sealUnit (unitAt w u) (e .0)) (seal-does (m .units u (range .0) (range .1)) (e .0) low small-epoch)
+    was-sealed m (range .0) (range .1) g k e (edged (shapeUnder (w .held)) (unitAt w u) e) (unit-after (shapeUnder (w .held)) (unitAt w u) (requestOf (Seal e) g)) (seal-does (m .units u (range .0) (range .1)) (e .0) low small-epoch)
 serve-ok {h} {w} {g = g} {k} m to (offer-ok ok) =
     offered m g k (saying (offeredTo (w .held) k .answer)) (offeredTo (w .held) k .held) (offer-does (w .held) k (m .run) (m .held-is) ok)
 serve-ok {w = w} {g = g} {k} m to (start-ok {e = e} {p} low) = sequencer-after (Start e p) g k (asked.Start e p) m low (λ r. means-start)

@@ -9,7 +9,7 @@ use Rattle.unit.specs.State.{State}
 use Rattle.unit.specs.Unit.{freshUnit}
 use Rattle.rule.specs.World.{unitAt}
 use Rattle.rule.specs.Fresh.{freshUnits, freshWorld}
-use Rattle.vouch.specs.Runs.{Moves, world}
+use Rattle.vouch.specs.Runs.{Moves, world, worldBy}
 use Rattle.vouch.specs.Runs.Moves.{none, _▸_}
 use Rattle.vouch.proofs.Coming.{fresh-unit}
 use Rattle.rule.proofs.Tidy.{Tidy, step-tidy}
@@ -25,6 +25,6 @@ unfolding freshWorld freshUnits
 fresh-tidy l = record { eight = refl; numbers = λ u low high. fresh-number l u low high; few = omega arith }
 
 pub tidy : (l : Layout) (ms : Moves) → Tidy (world l ms)
-unfolding world
+unfolding worldBy
 tidy l none = fresh-tidy l
 tidy l (ms ▸ m) = step-tidy (world l ms) (tidy l ms) (m .does) (m .job)

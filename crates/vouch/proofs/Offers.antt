@@ -20,21 +20,22 @@ use Rattle.history.specs.Words.{UnitNo, Pos}
 use Rattle.history.specs.Maps.{Map, Has, Successor}
 use Rattle.history.specs.History.{History, Laid, held}
 use Rattle.history.specs.Events.{MayInstall, Run}
-use Rattle.history.specs.Edges.{SealAnswer}
-use Rattle.vouch.specs.Layouts.{mapOf}
+use Rattle.history.specs.Edges.{SealedAt, EdgeAt}
+use Rattle.vouch.proofs.Layouts.{mapOf}
 use Rattle.history.proofs.Epochs.{held-laid, laid-one}
 use Rattle.history.proofs.Edges.{may-install}
 use Rattle.vouch.proofs.GoodMap.{good-map, epoch-of, lawful-successor, source-itself}
 
 -- ---- what a reorganise sees to before it offers
 
--- It seals every unit of the new layout with the epoch of the layout that it goes by, and no answered edge is above a new range's start.
+-- It seals every unit of the new layout with the epoch of the layout that it goes by, and no edge is above a new range's start.
 pub record OfferOk (h : History) (l : Layout) : Type 0 where
   pub of : Map
   pub laid : Laid h of
   pub next : l .epoch .0 ≡ suc (of .epoch)
   pub bound : Pos
-  pub sealed-all : (u : UnitNo) → Has (mapOf (layOf l)) u → SealAnswer h u (of .epoch) bound
+  pub sealed-all : (u : UnitNo) → Has (mapOf (layOf l)) u → SealedAt h u (of .epoch)
+  pub edges : (u : UnitNo) → Has (mapOf (layOf l)) u → EdgeAt h u (of .epoch) bound
   pub start : of .start < mapOf (layOf l) .start → bound ≤ mapOf (layOf l) .start
 
 -- ---- the holder
@@ -57,7 +58,8 @@ install-does {h} k l run holds offer fine =
       itself = source-itself (layOf k) (layOf l) k-good l-good (ok .follows);
     }) in
     may-install (offer .bound) run (good-map (layOf l) l-good) (omega (arith, epoch-of l, ok .next)) (plain .successor) (plain .itself)
-    (λ u has. subst (λ m. SealAnswer h u (m .epoch) (offer .bound)) same (offer .sealed-all u has))
+    (λ u has. subst (λ m. SealedAt h u (m .epoch)) same (offer .sealed-all u has))
+    (λ u has. subst (λ m. EdgeAt h u (m .epoch) (offer .bound)) same (offer .edges u has))
     (subst (λ m. m .start < mapOf (layOf l) .start → offer .bound ≤ mapOf (layOf l) .start) same (offer .start))
 
 -- what came of an offer: the answer, and the layout held afterwards

@@ -21,8 +21,8 @@ use Rattle.layout.proofs.Settling.{startedPlan, plan-started}
 use Rattle.history.specs.Words.{UnitNo, Pos, Epoch, _∈_}
 use Rattle.history.specs.Maps.{Has}
 use Rattle.history.specs.History.{History, Laid}
-use Rattle.history.specs.Edges.{SealAnswer}
-use Rattle.vouch.specs.Layouts.{mapOf}
+use Rattle.history.specs.Edges.{SealedAt, EdgeAt}
+use Rattle.vouch.proofs.Layouts.{mapOf}
 use Rattle.vouch.proofs.Offers.{OfferOk}
 
 -- a new range starts at the largest edge or above it
@@ -73,21 +73,22 @@ module _ (k : Layout) (drops : List ℕ) (w : Wish) (planned-fine : plannedFor k
       unfolding planned layOf
       started-epoch = let e = ap (λ (l : Lay). l .epoch) started-lay in omega arith
 
-      -- where every unit of the plan has answered a seal, what is offered is as it should be
-      pub planned-offer : {h : History} → Laid h (mapOf (layOf k)) → ((u : UnitNo) → Has (mapOf (layOf (plannedFor k drops w .layout))) u → SealAnswer h u (k .epoch .0) g) →
-          OfferOk h (startedAt (plannedFor k drops w .layout) g .layout)
+      -- where every unit of the plan is sealed and has told its edge, what is offered is as it should be
+      pub planned-offer : {h : History} → Laid h (mapOf (layOf k)) → ((u : UnitNo) → Has (mapOf (layOf (plannedFor k drops w .layout))) u → SealedAt h u (k .epoch .0)) →
+          ((u : UnitNo) → Has (mapOf (layOf (plannedFor k drops w .layout))) u → EdgeAt h u (k .epoch .0) g) → OfferOk h (startedAt (plannedFor k drops w .layout) g .layout)
       unfolding layOf
-      planned-offer {h} laid answered = record {
+      planned-offer {h} laid sealed-all edges = record {
         of = mapOf (layOf k);
         laid = laid;
         next = started-epoch;
         bound = g;
-        sealed-all = λ u has. answered u (subst (λ ss. u ∈ unitsOf ss) started-sets has);
+        sealed-all = λ u has. sealed-all u (subst (λ ss. u ∈ unitsOf ss) started-sets has);
+        edges = λ u has. edges u (subst (λ ss. u ∈ unitsOf ss) started-sets has);
         start = subst (λ (l : Lay). mapOf (layOf k) .start < mapOf l .start → g ≤ mapOf l .start) (sym started-lay) (planned-start (layOf k) drops (newOf w) g);
       }
 
 -- ---- the largest edge so far
 
 -- an edge is one for every position above it
-pub edge-wider : {h : History} {u : UnitNo} {n : Epoch} {g₁ g₂ : Pos} → g₁ ≤ g₂ → SealAnswer h u n g₁ → SealAnswer h u n g₂
-edge-wider le s = record { sealed-at = s .sealed-at; edge = λ now p at. s .edge now p (omega arith) }
+pub edge-wider : {h : History} {u : UnitNo} {n : Epoch} {g₁ g₂ : Pos} → g₁ ≤ g₂ → EdgeAt h u n g₁ → EdgeAt h u n g₂
+edge-wider le e = record { edge-at = λ now p from. e .edge-at now p (omega arith) }

@@ -1,40 +1,45 @@
 -- A reorganise with no other step between ends in done: fetch, a seal for each unit of the new layout, offer, start.
 -- Rests on Beginning and Forward.
 use mathlib.Core.Path.{_≡_, refl, ap, subst, _∙_}
-use mathlib.Core.Bool.{Bool, true, false, cond}
+use mathlib.Core.Bool.{true}
 use mathlib.Core.List.{List, [], _∷_}
 use Prim.Native.Nat.{ℕ, suc, _+_, _-_, _≤_, _<_}
 use native.Mathlib.Omega.{arith}
-use borrow.Author.Tests.{le-leb, leb-true, eq-eqb, ne-eqb}
-use lib.Dec.{eqb, leb}
+use borrow.Author.Tests.{leb-true}
+use lib.Dec.{leb}
 use lib.ListN.{getD, set}
 use Rattle.num.specs.Limits.{limit, lastEpoch}
 use Rattle.num.specs.declared.Position.{Position}
 use Rattle.num.proofs.Tests.{and-both}
+use Rattle.client.specs.declared.turn.Turn.{Turn}
 use Rattle.layout.specs.declared.Layout.{Layout}
 use Rattle.layout.specs.Lay.{Lay, _in?_, unitsOf}
 use Rattle.layout.specs.Value.{layOf}
 use Rattle.layout.specs.Places.{above}
 use Rattle.layout.proofs.Sets.{above-next}
 use Rattle.unit.specs.State.{State, edge}
-use Rattle.unit.specs.Unit.{freshUnit, sealUnit}
+use Rattle.unit.specs.Unit.{freshUnit, after as unit-after}
+use Rattle.unit.specs.Unit.Request.{seal}
 use Rattle.unit.proofs.Lookup.{edge-limit}
 use Rattle.sequencer.specs.declared.Sequencer.{Sequencer}
+use Rattle.client.specs.declared.UnitAsk.the-variants as unit-ask
 use Rattle.client.specs.declared.Ask.the-variants as ask
 use Rattle.client.specs.declared.Reply.{Reply}
 use Rattle.client.specs.declared.Reply.the-variants.{Edge}
 use Rattle.client.specs.declared.Client.{Client}
-use Rattle.client.specs.declared.Stage.the-variants.{Sealing}
+use Rattle.client.specs.declared.Phase.the-variants.{Sealing}
 use Rattle.client.specs.Message.{plain}
-use Rattle.client.specs.Client.{inStage, lastNumber}
+use Rattle.client.specs.Client.{inPhase, lastNumber}
 use Rattle.client.specs.Turn.{numbered, next, sends}
 use Rattle.client.specs.Way.{unitAbove}
-use Rattle.client.specs.Reorganise.{seals, sealsOn, larger, sealedAt, onSealed}
+use Rattle.client.specs.Reorganise.{allSealed, seals, sealsOn, larger}
 use Rattle.client.specs.Take.{answered}
+use Rattle.client.proofs.Clients.{larger-within}
+use Rattle.client.proofs.Turns.{seal-cases, edge-cases}
 use Rattle.rule.specs.World.{World, shapeUnder, isUnit, running}
-use Rattle.rule.specs.Serve.{bare, atUnit, serve}
+use Rattle.rule.specs.Serve.{bare, atUnit, unitSays, unitAfter, serve}
 use Rattle.vouch.specs.LastSentence.{exchanges, Conditions}
-use Rattle.vouch.proofs.Exchange.{pass, hold, not-so, waiting, as-turn, sends-on, Asked, exchange-on}
+use Rattle.vouch.proofs.Exchange.{not-so, waiting, as-turn, sends-on, Asked, exchange-on}
 use Rattle.vouch.proofs.Forward.{Sound, offered, offered-lay, units, units-work, Walk, UnitsOn, seal-tells, seal-on}
 use Rattle.vouch.proofs.Installing.{Comes, comes-as, offer-comes}
 use Rattle.vouch.proofs.Forward.Walk.{walk-end, walk-next}
@@ -62,7 +67,6 @@ module _ (w : World) (c : ℕ) (sound : Sound w) (may : Conditions w c) where
   -- ---- a seal
 
   next-unit : (y : Client) (u : ℕ) → y .plan ≡ plan → unitAbove (y .plan) u ≡ above u (units w c sound may)
-  unfolding unitAbove
   next-unit y u plans = ap (λ (l : Layout). above u (unitsOf (layOf l .sets))) plans ∙ ap (λ (l : Lay). above u (unitsOf (l .sets))) (offered-lay w c sound may)
 
   -- a unit that comes next is one of 1 to 8, and works
@@ -83,27 +87,26 @@ module _ (w : World) (c : ℕ) (sound : Sound w) (may : Conditions w c) where
 
   module _ (us : List State) (y : Client) (v : ℕ) (e : Position) (on : UnitsOn w us) (way : OnWay y) (is : NextWorks v) (few : e .0 ≤ limit) where
     abbrev y₃ : Client
-    y₃ = inStage y (Sealing v e)
+    y₃ = inPhase y (Sealing v e)
 
     abbrev M : State
     M = getD us (v - 1) (freshUnit v)
 
     abbrev sealed-units : List State
-    sealed-units = set us (v - 1) (sealUnit M (k .epoch .0))
+    sealed-units = set us (v - 1) (unit-after (shapeUnder k) M (seal (k .epoch)))
 
     abbrev told : Position
     told = record { 0 = edge M }
 
-    seals-so : seals y v e ≡ sends y₃ (plain (ask.Seal v (k .epoch)))
-    unfolding seals
-    seals-so = ap (λ (l : Layout). sends y₃ (plain (ask.Seal v (l .epoch)))) (way .layout-is)
+    seals-so : seals y v e ≡ sends y₃ (plain (ask.Unit v (unit-ask.Seal (k .epoch))))
+    seals-so = ap (λ (l : Layout). sends y₃ (plain (ask.Unit v (unit-ask.Seal (l .epoch))))) (way .layout-is)
 
-    seal-asked : Asked w c (w .letters) (may .is-client) (sound .four-clients) (may .few-letters) k k us sealed-units s s y₃ (plain (ask.Seal v (k .epoch))) (bare (Edge told))
-    unfolding serve
+    seal-asked : Asked w c (w .letters) (may .is-client) (sound .four-clients) (may .few-letters) k k us sealed-units s s y₃ (plain (ask.Unit v (unit-ask.Seal (k .epoch)))) (bare (Edge told))
+    unfolding unitSays unitAfter serve
     seal-asked = record {
       there = not-so (running (w .stopped) v) (is .works);
-      serves = ap (λ (r : Reply). atUnit (waiting w c (w .letters) k us s y₃ (plain (ask.Seal v (k .epoch)))) v (bare r) (sealUnit M (k .epoch .0)))
-          (seal-tells M (k .epoch .0) (on .kept v (is .low) (is .high) .low));
+      serves = ap (λ (r : Reply). atUnit (waiting w c (w .letters) k us s y₃ (plain (ask.Unit v (unit-ask.Seal (k .epoch))))) v (bare r) (unit-after (shapeUnder k) M (seal (k .epoch))))
+          (seal-tells (shapeUnder k) M (k .epoch) (on .kept v (is .low) (is .high) .low));
     }
 
     abbrev x₃ : Client
@@ -113,32 +116,24 @@ module _ (w : World) (c : ℕ) (sound : Sound w) (may : Conditions w c) where
     told-few = edge-limit (shapeUnder k) M (on .kept v (is .low) (is .high) .is-valid)
 
     seal-taken : answered (y₃ .stage) x₃ (bare (Edge told)) ≡ sealsOn x₃ v (larger e told)
-    unfolding answered inStage onSealed sealedAt
-    seal-taken = hold _ _ (leb (told .0) limit) (le-leb (told .0) limit told-few)
+    seal-taken = edge-cases (λ (t : Turn). t ≡ sealsOn x₃ v (larger e told)) x₃ v e told (λ few. refl) (λ past. absurd (omega (arith, told-few)))
 
     larger-few : larger e told .0 ≤ limit
-    unfolding larger
-    larger-few = go (leb (e .0) (told .0))
-      where
-        go : (b : Bool) → cond b told e .0 ≤ limit
-        go true = told-few
-        go false = few
+    larger-few = larger-within e told limit few told-few
 
     way-on : OnWay x₃
-    unfolding inStage numbered
     way-on = record { layout-is = way .layout-is; plan-is = way .plan-is }
 
     used-on : x₃ .used .0 ≡ y .used .0 + 1
-    unfolding inStage numbered
     used-on = refl
 
     seal-comes : {n : ℕ} → y .used .0 < lastNumber → Comes w c sound may sealed-units (sealsOn x₃ v (larger e told)) n → Comes w c sound may us (seals y v e) (suc n)
-    unfolding exchanges inStage
+    unfolding exchanges
     seal-comes {n} left rest = record {
       end = rest .end;
       run =
           as-turn w c (w .letters) seals-so
-          (sends-on w c (w .letters) y₃ (plain (ask.Seal v (k .epoch))) left
+          (sends-on w c (w .letters) y₃ (plain (ask.Unit v (unit-ask.Seal (k .epoch)))) left
           (exchange-on w c (w .letters) (may .is-client) (sound .four-clients) (may .few-letters) seal-asked
           (as-turn w c (w .letters) seal-taken (rest .run))));
       well = rest .well;
@@ -148,15 +143,15 @@ module _ (w : World) (c : ℕ) (sound : Sound w) (may : Conditions w c) where
 
   pub seals-come : {u : ℕ} {rest : List ℕ} → Walk (units w c sound may) u rest → (us : List State) (y : Client) (e : Position) → UnitsOn w us → OnWay y → e .0 ≤ limit →
       y .used .0 + (requests rest + 2) ≤ lastNumber → Comes w c sound may us (sealsOn y u e) (requests rest)
-  unfolding requests sealsOn
+  unfolding requests
   seals-come {u} (walk-end none) us y e on way few left =
-      comes-as w c sound may (hold _ _ (eqb (unitAbove (y .plan) u) 0) (eq-eqb (unitAbove (y .plan) u) 0 (next-unit y u (way .plan-is) ∙ none)))
+      comes-as w c sound may (seal-cases (λ (t : Turn). t ≡ allSealed y e) y u e (λ last. refl) (λ some. absurd (some (next-unit y u (way .plan-is) ∙ none))))
       (offer-comes w c sound may us y e on (way .plan-is) few left)
   seals-come {u} (walk-next {v = v} {vs = vs} is lt rest) us y e on way few left =
       let works = next-works u v is lt in
       let at : unitAbove (y .plan) u ≡ v = next-unit y u (way .plan-is) ∙ is in
       comes-as w c sound may
-      (pass _ _ (eqb (unitAbove (y .plan) u) 0) (ne-eqb (unitAbove (y .plan) u) 0 (λ z. omega (arith, at))) ∙ ap (λ z. seals y z e) at)
+      (seal-cases (λ (t : Turn). t ≡ seals y v e) y u e (λ none. absurd (omega (arith, at, none))) (λ some. ap (λ z. seals y z e) at))
       (seal-comes us y v e on way works few (omega (arith, left))
       (seals-come rest (sealed-units us y v e on way works few) (x₃ us y v e on way works few) (larger e (told us y v e on way works few))
       (seal-on w us v epoch-few on (works .low) (works .high)) (way-on us y v e on way works few) (larger-few us y v e on way works few) (omega (arith, left, used-on us y v e on way works few))))

@@ -2,19 +2,22 @@
 -- Rests on Beginning and Walks.
 use mathlib.Core.Path.{_≡_, refl, sym, ap, _∙_}
 use mathlib.Core.Bool.{Bool, true, false, cond}
-use mathlib.Core.List.{[], _∷_}
+use mathlib.Core.List.{List, [], _∷_}
 use Prim.Native.Nat.{ℕ, _+_, _-_, _≤_, _<_}
 use native.Mathlib.Omega.{arith}
-use borrow.Author.Tests.{lt-leb, eqb-true}
+use borrow.Author.Tests.{lt-leb, eqb-true, eqb-false}
 use lib.Dec.{eqb, leb}
-use lib.ListN.{length}
+use lib.ListN.{length, set}
 use lib.Seq.{getD-append-seam, getD-set-same}
 use Rattle.num.specs.Limits.{limit}
 use Rattle.num.specs.declared.Position.{Position}
 use Rattle.layout.specs.Value.{layOf, goodValue, blank}
 use Rattle.layout.specs.Places.{setAt, tailOf}
-use Rattle.unit.specs.State.{Slot, State}
-use Rattle.unit.specs.Unit.{readSays, readShows}
+use Rattle.unit.specs.State.{Content, State}
+use Rattle.unit.specs.Unit.{says as unit-says, report}
+use Rattle.unit.specs.Unit.Request.{read}
+use Rattle.unit.proofs.Answers.{after-read}
+use Rattle.client.specs.declared.UnitAsk.the-variants as unit-ask
 use Rattle.client.specs.declared.Ask.the-variants as ask
 use Rattle.client.specs.declared.Page.{Page}
 use Rattle.client.specs.declared.Query.{Query}
@@ -23,38 +26,37 @@ use Rattle.client.specs.declared.Response.{Response}
 use Rattle.client.specs.declared.Stamp.{Stamp}
 use Rattle.client.specs.declared.Client.{Client}
 use Rattle.client.specs.declared.Work.the-variants.{Read}
-use Rattle.client.specs.declared.Stage.the-variants.{Reading}
+use Rattle.client.specs.declared.Phase.the-variants.{Reading}
 use Rattle.client.specs.declared.Outcome.{Outcome}
 use Rattle.client.specs.declared.turn.Turn.{Turn}
 use Rattle.client.specs.Message.{noPage, plain}
-use Rattle.client.specs.Client.{fresh, busy, jobOf, inStage, holding, lastNumber}
-use Rattle.client.specs.Turn.{numbered, next, sends, outcomeOf, over, otherwise}
-use Rattle.client.specs.Turn.{ends as endsWith}
-use Rattle.client.specs.Begin.{withJob}
-use Rattle.client.specs.Read.{reads, onRead}
+use Rattle.client.specs.Client.{fresh, busy, jobOf, inPhase, lastNumber}
+use Rattle.client.specs.Turn.{numbered, next, sends, over}
+use Rattle.client.specs.Read.{onRead}
 use Rattle.client.specs.Way.{tailFor}
-use Rattle.client.specs.Take.{goesOn, answered}
-use Rattle.rule.specs.World.{World, running, clientAt, unitAt, letterAt, blankLetter}
-use Rattle.rule.specs.Serve.{bare, pageOf, serve}
+use Rattle.client.specs.Take.{goesOn, worked, answered}
+use Rattle.client.proofs.Turns.{sends-sent, otherwise-ends}
+use Rattle.rule.specs.World.{World, shapeUnder, running, clientAt, unitAt, letterAt, blankLetter}
+use Rattle.rule.specs.Serve.{ServedWorld, bare, pageOf, unitSays, unitAfter, serve}
 use Rattle.rule.specs.Serve.{shown as reading-of}
-use Rattle.rule.specs.Steps.{Done, fine, request, ended, answerTo}
+use Rattle.rule.specs.Steps.{Done, fine, request, ended, answerTo, step}
+use Rattle.rule.proofs.Serving.{unit-same}
 use Rattle.vouch.specs.Runs.{result}
 use Rattle.vouch.specs.LastSentence.{Goes, begin, deliver, exchanges, reading}
 use Rattle.vouch.proofs.Walks.{units-at}
-use Rattle.vouch.proofs.Exchange.{pass, not-so, yard, place, as-turn, sends-on, after, waiting, request-served, answer-taken, Asked, exchange-ends}
+use Rattle.vouch.proofs.Exchange.{not-so, yard, place, as-turn, sends-on, after, waiting, request-served, answer-taken, Asked, exchange-ends}
 use Rattle.vouch.proofs.Beginning.{Ready, Fit, fetched, begin-fetch, fetch-leads}
 
 -- the page of an answer, none unless it is 0
-abbrev pub shownBy : ℕ → Slot → Page
+abbrev pub shownBy : ℕ → Content → Page
 shownBy n s = cond (eqb n 0) (pageOf s) noPage
 
 -- the client ends with the number and the page that it is answered
-takes-answer : (x : Client) (n : ℕ) (s : Slot) (b : Bool) → eqb n 0 ≡ b →
+pub takes-answer : (x : Client) (n : ℕ) (s : Content) (b : Bool) → eqb n 0 ≡ b →
     let r : Response = cond b (record { reply = Shown; page = pageOf s; layout = blank }) (bare (Refused n)) in
     onRead x (r .reply) (r .page) ≡ over x n (cond b (pageOf s) noPage)
-unfolding onRead otherwise endsWith
 takes-answer x n s true e = ap (λ m. over x m (pageOf s)) (sym (eqb-true n 0 e))
-takes-answer x n s false e = pass _ _ (eqb n 0) e
+takes-answer x n s false e = otherwise-ends x n (eqb-false n 0 e)
 
 module _ (w : World) (c : ℕ) (ready : Ready w c) (p : Position) (below : p .0 < limit) (good : goodValue (w .held) ≡ true) where
   fit : Fit (jobOf (Read p)) (w .held .shape)
@@ -68,40 +70,41 @@ module _ (w : World) (c : ℕ) (ready : Ready w c) (p : Position) (below : p .0 
   tail = tailOf (setAt (layOf (w .held)) (p .0))
 
   abbrev ask-tail : Query
-  ask-tail = plain (ask.Read tail (w .held .epoch) p)
+  ask-tail = plain (ask.Unit tail (unit-ask.Read (w .held .epoch) p))
 
   tail-is : tailFor x ≡ tail
-  unfolding tailFor holding numbered withJob
   tail-is = ap tailOf (units-at (w .held) (p .0) good below)
 
   -- the client once it asks the tail
   abbrev y : Client
-  y = inStage x (Reading tail)
+  y = inPhase x (Reading tail)
 
   reads-tail : goesOn (Read p) x ≡ sends y ask-tail
-  unfolding goesOn reads holding numbered withJob
-  reads-tail = ap (λ u. sends (inStage x (Reading u)) (plain (ask.Read u (w .held .epoch) p))) tail-is
+  reads-tail = ap (λ u. sends (inPhase x (Reading u)) (plain (ask.Unit u (unit-ask.Read (w .held .epoch) p)))) tail-is
 
   abbrev M : State
   M = unitAt w tail
 
   abbrev pub says : ℕ
-  says = readSays M (w .held .epoch .0) (p .0)
+  says = unit-says (shapeUnder (w .held)) M (read (w .held .epoch) p)
 
   abbrev pub shows : Page
-  shows = shownBy says (readShows M (w .held .epoch .0) (p .0))
+  shows = shownBy says (report (shapeUnder (w .held)) M (read (w .held .epoch) p) .page)
 
   abbrev response : Response
-  response = reading-of M (w .held .epoch .0) (p .0)
+  response = reading-of (shapeUnder (w .held)) M (w .held .epoch) p
 
   module _ (works : running (w .stopped) tail ≡ true) (left : clientAt w c .used .0 + 2 ≤ lastNumber) where
     asks : Asked w c (w .letters) (ready .is-client) (ready .clients) (ready .few) (w .held) (w .held) (w .units) (w .units) (w .sequencer) (w .sequencer) y ask-tail response
-    unfolding serve
-    asks = record { there = not-so (running (w .stopped) tail) works; serves = refl }
+    unfolding unitSays unitAfter serve
+    asks = record { there = not-so (running (w .stopped) tail) works; serves = ap there-with (ap (λ (s : State). set (w .units) (tail - 1) s) (after-read (shapeUnder (w .held)) M (w .held .epoch) p) ∙ unit-same w tail) }
+      where
+        there-with : List State → ServedWorld
+        there-with us = record { response = response; world = waiting w c (w .letters) (w .held) us (w .sequencer) y ask-tail }
 
     taken : answered (y .stage) (numbered y (next y)) response ≡ over (numbered y (next y)) says shows
-    unfolding answered inStage reading-of
-    taken = takes-answer (numbered y (next y)) says (readShows M (w .held .epoch .0) (p .0)) (eqb says 0) refl
+    unfolding reading-of
+    taken = takes-answer (numbered y (next y)) says (report (shapeUnder (w .held)) M (read (w .held .epoch) p) .page) (eqb says 0) refl
 
     abbrev outcome : Outcome
     outcome = record { number = says; position = p; epoch = w .held .epoch; page = shows }
@@ -112,7 +115,7 @@ module _ (w : World) (c : ℕ) (ready : Ready w c) (p : Position) (below : p .0 
     -- asked: the yard when the read's request is about to reach the tail
     pub record ReadGoes : Type 0 where
       pub done : Done
-      pub run : Goes w (reading w c p) done
+      pub run : Goes step w (reading w c p) done
       pub fine-done : done .answer ≡ 0
       pub who : done .who ≡ c
       pub outcome-is : done .outcome ≡ outcome
@@ -128,7 +131,6 @@ module _ (w : World) (c : ℕ) (ready : Ready w c) (p : Position) (below : p .0 
       pub last-is : result (result asked (deliver at) .world) (deliver at) ≡ done
 
     number-left : y .used .0 < lastNumber
-    unfolding inStage holding numbered withJob
     number-left = omega (arith, left)
 
     abbrev t : Turn
@@ -147,17 +149,15 @@ module _ (w : World) (c : ℕ) (ready : Ready w c) (p : Position) (below : p .0 
     Z′ = yard w c (w .letters) (w .held) (w .units) (w .sequencer) (numbered y (next y)) (answerTo me response ∷ [])
 
     leads-there : result (result (result w (begin c (jobOf (Read p))) .world) (deliver at) .world) (deliver at) .world ≡ Z
-    unfolding sends numbered
     leads-there =
         fetch-leads w c ready (jobOf (Read p)) fit good
         ∙ (ap (λ (z : Turn). after w c (w .letters) (w .held) (w .units) (w .sequencer) z) reads-tail
-        ∙ ap (λ (z : Turn). after w c (w .letters) (w .held) (w .units) (w .sequencer) z) (pass _ _ (leb lastNumber (y .used .0)) (lt-leb lastNumber (y .used .0) number-left)))
+        ∙ ap (λ (z : Turn). after w c (w .letters) (w .held) (w .units) (w .sequencer) z) (sends-sent y ask-tail number-left))
 
     is-served : result Z (deliver at) ≡ fine Z′
     is-served = request-served w c (w .letters) (ready .is-client) (ready .clients) (ready .few) (w .held) (w .held) (w .units) (w .units) (w .sequencer) (w .sequencer) y ask-tail response (asks .there) (asks .serves)
 
     is-taken : result Z′ (deliver at) ≡ finish
-    unfolding over
     is-taken =
         answer-taken w c (w .letters) (ready .is-client) (ready .clients) (ready .few) (w .held) (w .units) (w .sequencer) y response
         ∙ ap (λ (z : Turn). record { answer = 0; who = ended c (z .act); outcome = z .outcome; world = after w c (w .letters) (w .held) (w .units) (w .sequencer) z }) taken
@@ -166,7 +166,7 @@ module _ (w : World) (c : ℕ) (ready : Ready w c) (p : Position) (below : p .0 
     client-now = getD-set-same (w .clients) (c - 1) (numbered y (next y)) fresh (place w c (w .letters) (ready .is-client) (ready .clients) (ready .few))
 
     pub read-goes : ReadGoes
-    unfolding exchanges over outcomeOf inStage holding numbered withJob serve
+    unfolding exchanges unitSays unitAfter serve
     read-goes = record {
       done = finish;
       run = begin-fetch w c ready (jobOf (Read p)) fit good

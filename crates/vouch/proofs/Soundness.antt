@@ -9,9 +9,6 @@ use lib.Dec.{eqb, ltb}
 use lib.ListN.{length, length-set}
 use Rattle.layout.specs.declared.Layout.{Layout}
 use Rattle.layout.specs.Value.{layOf, goodValue}
-use Rattle.client.specs.declared.Ask.{Ask}
-use Rattle.client.specs.declared.Ask.the-variants.{Fetch, Token, Write, Read, Trim, Prune, Seal, Offer, Start}
-use Rattle.client.specs.declared.Page.{Page as PageValue}
 use Rattle.client.specs.declared.state.Job.{Job}
 use Rattle.client.specs.Take.{takes}
 use Rattle.rule.specs.declared.Body.{Body}
@@ -20,15 +17,16 @@ use Rattle.rule.specs.declared.Letter.{Letter}
 use Rattle.rule.specs.declared.Step.{Step}
 use Rattle.rule.specs.declared.Step.the-variants.{Begin, Deliver, Drop, Stop, Restart, GiveUp, Forget}
 use Rattle.rule.specs.World.{World, shapeUnder, isClient, running, clientAt, unitAt, letterAt}
-use Rattle.rule.specs.Serve.{serve, asking, offeringTo}
+use Rattle.rule.specs.Serve.{serve}
 use Rattle.rule.specs.Steps.{Done, refused, fine, keeping, tooMany, withLetters, sentBy, turned, beginNumber, begins, answers, served, taken, unbrought, brought, delivered, delivers, drops, stops, restartNumber, restarts, givesUp, forgets, response, step}
 use Rattle.rule.specs.Fresh.{freshWorld}
+use Rattle.rule.proofs.Serving.{serve-stopped}
 use Rattle.history.specs.Words.{UnitNo}
 use Rattle.history.specs.History.{History, held}
 use Rattle.history.specs.Events.{Run}
 use Rattle.history.specs.Maps.{Map}
-use Rattle.vouch.specs.Layouts.{mapOf}
-use Rattle.vouch.specs.Runs.{Moves, world}
+use Rattle.vouch.proofs.Layouts.{mapOf}
+use Rattle.vouch.specs.Runs.{Moves, world, worldBy}
 use Rattle.vouch.specs.Runs.Moves.{none, _▸_}
 use Rattle.history.proofs.Epochs.{sealed-to}
 use Rattle.vouch.proofs.UnitIs.{UnitIs}
@@ -58,18 +56,6 @@ either-end : (n : ℕ) (t : Bool) (d e : Done) → length (d .world .stopped) �
 either-end n true d e a b = a
 either-end n false d e a b = b
 
-serve-stopped : (w : World) (a : Ask) (g : PageValue) (l : Layout) → serve w a g l .world .stopped ≡ w .stopped
-unfolding serve asking offeringTo
-serve-stopped w Fetch g l = refl
-serve-stopped w (Token e) g l = refl
-serve-stopped w (Write u e p) g l = refl
-serve-stopped w (Read u e p) g l = refl
-serve-stopped w (Trim u e p) g l = refl
-serve-stopped w (Prune u e p) g l = refl
-serve-stopped w (Seal u e) g l = refl
-serve-stopped w Offer g l = refl
-serve-stopped w (Start e p) g l = refl
-
 brought-stopped : (w : World) (ls : List Letter) (keep : Bool) (l : Letter) (b : Body) → length (brought w ls keep l b .world .stopped) ≡ length (w .stopped)
 unfolding served taken turned
 brought-stopped w ls keep l Blank = refl
@@ -95,6 +81,6 @@ step-stopped w (GiveUp c) j = either-end (length (w .stopped)) (isClient c) _ (r
 step-stopped w Forget j = refl
 
 pub stopped-long : (l : Layout) (ms : Moves) → length (world l ms .stopped) ≡ 8
-unfolding world freshWorld
+unfolding worldBy freshWorld
 stopped-long l none = refl
 stopped-long l (ms ▸ m) = step-stopped (world l ms) (m .does) (m .job) ∙ stopped-long l ms

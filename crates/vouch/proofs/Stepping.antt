@@ -5,7 +5,7 @@ use mathlib.Core.Bool.{Bool, true, false, not, cond}
 use mathlib.Core.List.{List}
 use Prim.Native.Nat.{ℕ, _+_, _-_, _≤_}
 use native.Mathlib.Omega.{arith}
-use lib.Dec.{eqb, leb, ltb}
+use lib.Dec.{eqb, ltb}
 use lib.ListN.{length, set}
 use borrow.Author.Tests.{eqb-true, not-false}
 use Rattle.num.proofs.Tests.{cond-zero}
@@ -15,9 +15,10 @@ use Rattle.sequencer.specs.Rules.{number, becomes, after}
 use Rattle.client.specs.declared.Stamp.{Stamp}
 use Rattle.client.specs.declared.state.Job.{Job}
 use Rattle.client.specs.declared.Client.{Client}
-use Rattle.client.specs.Client.{busy, idle, lastLife}
-use Rattle.client.specs.Turn.{rests, ends}
+use Rattle.client.specs.Client.{idle}
 use Rattle.client.specs.Begin.{giveUp, restartAnswer, restarted}
+use Rattle.client.proofs.Clients.{idle-life, restarted-cases}
+use Rattle.client.proofs.Turns.{give-up-cases}
 use Rattle.rule.specs.declared.Step.{Step}
 use Rattle.rule.specs.declared.Step.the-variants.{Begin, Deliver, Drop, Stop, Restart, GiveUp, Forget}
 use Rattle.rule.specs.World.{World, isClient, clientAt, running}
@@ -31,7 +32,7 @@ use Rattle.vouch.proofs.Turns.{TurnOk, quiet-ok, ends-ok}
 use Rattle.vouch.proofs.Turns.TurnOk.{rests-ok}
 use Rattle.vouch.proofs.Together.{NotLater, Good, Next}
 use Rattle.vouch.proofs.Together.NotLater.{older-life, this-life}
-use Rattle.vouch.proofs.Turning.{later-letters, silent, refused-ok, with-letters, same-client, new-client, idle-newer, turned-ok}
+use Rattle.vouch.proofs.Turning.{later-letters, silent, refused-ok, with-letters, same-client, new-client, idle-ok, idle-newer, turned-ok}
 use Rattle.vouch.proofs.Asking.{begin-ok}
 use Rattle.vouch.proofs.Delivering.{deliver-ok}
 
@@ -90,12 +91,7 @@ module _ (l : Layout) (ms : Moves) (m : Move) {h : History} (good : Good l ms h 
   -- ---- give up: outcome 20
 
   give-up-turn : (c : Client) → TurnOk h c (giveUp c)
-  unfolding giveUp
-  give-up-turn c = go (busy (c .stage))
-    where
-      go : (b : Bool) → TurnOk h c (cond b (ends c 20) (rests c))
-      go true = ends-ok c 20 refl refl (quiet-ok c 20 (omega arith) (omega arith) (omega arith))
-      go false = rests-ok
+  give-up-turn c = give-up-cases (TurnOk h c) c (λ working. ends-ok c 20 refl refl (quiet-ok c 20 (omega arith) (omega arith) (omega arith))) (λ resting. rests-ok)
 
   give-up-ok : (c : ℕ) → Next l ms m h (world l ms) (givesUp (world l ms) c)
   unfolding givesUp
@@ -113,7 +109,7 @@ module _ (l : Layout) (ms : Moves) (m : Move) {h : History} (good : Good l ms h 
   -- ---- restart: the next life, so that no letter is of it
 
   restart-ok : (c : ℕ) → Next l ms m h (world l ms) (restarts (world l ms) c)
-  unfolding restarts restartNumber restarted idle
+  unfolding restarts restartNumber
   restart-ok c = go (eqb (restartNumber (world l ms) c) 0) refl
     where
       w : World
@@ -123,18 +119,18 @@ module _ (l : Layout) (ms : Moves) (m : Move) {h : History} (good : Good l ms h 
       is-client e = not-false (isClient c) (cond-zero (not (isClient c)) 17 (cond (not (eqb (restartAnswer (clientAt w c)) 0)) 19 0) (omega arith) e .0)
 
       numbers : (s : Stamp) → NotLater (clientAt w c) s → NotLater (idle (clientAt w c .life + 1) (record { 0 = 0 })) s
-      numbers s (older-life lt) = older-life (omega arith)
-      numbers s (this-life e le) = older-life (omega (arith, e))
+      numbers s (older-life lt) = older-life (omega (arith, idle-life (clientAt w c .life + 1) (record { 0 = 0 })))
+      numbers s (this-life e le) = older-life (omega (arith, e, idle-life (clientAt w c .life + 1) (record { 0 = 0 })))
 
-      new : isClient c ≡ true → (b : Bool) → Good l (ms ▸ m) h (withClient w c (cond b (clientAt w c) (idle (clientAt w c .life + 1) (record { 0 = 0 }))))
-      new is true = same-client l ms m good c (w .letters) (good .letters)
-      new is false =
+      new : isClient c ≡ true → Good l (ms ▸ m) h (withClient w c (restarted (clientAt w c)))
+      new is =
           let range = client-range c is in
-          new-client l ms m good c (range .0) (range .1) (idle (clientAt w c .life + 1) (record { 0 = 0 })) (w .letters) (w .letters)
-          (idle-newer l ms m good c (range .0) (range .1) (clientAt w c .life + 1) (record { 0 = 0 }) numbers) tt (good .letters) (λ all. all)
+          restarted-cases (λ (x : Client). Good l (ms ▸ m) h (withClient w c x)) (clientAt w c) (λ last. same-client l ms m good c (w .letters) (good .letters))
+          (λ next. new-client l ms m good c (range .0) (range .1) (idle (clientAt w c .life + 1) (record { 0 = 0 })) (w .letters) (w .letters)
+          (idle-newer l ms m good c (range .0) (range .1) (clientAt w c .life + 1) (record { 0 = 0 }) numbers) (idle-ok l ms m good (clientAt w c .life + 1) (record { 0 = 0 })) (good .letters) (λ all. all))
 
       go : (b : Bool) → eqb (restartNumber w c) 0 ≡ b → Next l ms m h w (cond b (fine (withClient w c (restarted (clientAt w c)))) (refused w (restartNumber w c)))
-      go true e = silent l ms m good _ refl (new (is-client (eqb-true (restartNumber w c) 0 e)) (leb lastLife (clientAt w c .life)))
+      go true e = silent l ms m good _ refl (new (is-client (eqb-true (restartNumber w c) 0 e)))
       go false e = refused-ok l ms m good (restartNumber w c)
 
 -- ---- every step

@@ -20,7 +20,8 @@ use Rattle.rule.specs.Serve.{serve}
 use Rattle.rule.specs.Steps.{Done, answerTo, response}
 use Rattle.history.specs.History.{Note, History, _⊑_, Noted}
 use Rattle.history.specs.Events.{Run}
-use Rattle.vouch.specs.Runs.{Move, Moves, _≼_, world, Asked, Delivers}
+use Rattle.vouch.specs.Runs.{Move, Moves, _≼_, world}
+use Rattle.vouch.proofs.Fields.{Asked, Delivers}
 use Rattle.vouch.specs.Runs.Moves.{_▸_}
 use Rattle.vouch.specs.Runs._≼_.{all-of, part-of}
 use Rattle.vouch.proofs.Meaning.{AskOk, Means, StageOk, WaitsFor, OutcomeOk}
@@ -48,6 +49,8 @@ pub record Origin (l : Layout) (ms : Moves) (answer : Letter) (a : Ask) : Type 0
   pub within : before ▸ move ≼ ms
   pub request : Letter
   pub delivers : Delivers l before move request
+  pub kept : delivers .keepAnswer ≡ true
+  pub current : Current (getD (world l before .clients) (request .stamp .client - 1) fresh) (request .stamp)
   pub asks : request .body ≡ Asks a
   pub answer-is : answerTo (request .stamp) (serve (world l before) a (request .page) (request .layout) .response) ≡ answer
 
@@ -121,6 +124,8 @@ origin-on more o = record {
   within = within-trans (o .within) more;
   request = o .request;
   delivers = o .delivers;
+  kept = o .kept;
+  current = o .current;
   asks = o .asks;
   answer-is = o .answer-is;
 }

@@ -3,7 +3,7 @@
 use mathlib.Core.Path.{_≡_, refl, sym, ap, subst, _∙_}
 use mathlib.Core.Bool.{true}
 use mathlib.Core.List.{List, [], _++_}
-use Prim.Native.Nat.{ℕ, _+_, _-_, _≤_}
+use Prim.Native.Nat.{ℕ, _-_, _≤_}
 use native.Mathlib.Omega.{arith}
 use lib.ListN.{set, length-set}
 use lib.Seq.{set-getD}
@@ -14,8 +14,10 @@ use Rattle.client.specs.declared.Stamp.{Stamp}
 use Rattle.client.specs.declared.Query.{Query}
 use Rattle.client.specs.declared.Client.{Client}
 use Rattle.client.specs.declared.turn.Turn.{Turn}
-use Rattle.client.specs.Client.{fresh, idle}
-use Rattle.client.specs.Turn.{outcomeOf, rests, over, numbered, next, sent}
+use Rattle.client.specs.declared.Stage.{Stage}
+use Rattle.client.specs.Client.{fresh, busy, idle}
+use Rattle.client.specs.Turn.{outcomeOf, numbered, next, sent}
+use Rattle.client.proofs.Clients.{idle-life, idle-used, idle-stage}
 use Rattle.rule.specs.declared.Letter.{Letter}
 use Rattle.rule.specs.World.{World, isClient, clientAt}
 use Rattle.rule.specs.Steps.{Done, refused, withLetters, withClient, request, turned}
@@ -76,6 +78,10 @@ module _ (l : Layout) (ms : Moves) (m : Move) {h : History} {w : World} (good : 
     letters = later-letters all;
   }
 
+  -- a client with no operation vouches for nothing
+  pub idle-ok : (life : ℕ) (used : Request) → StageOk h (idle life used) (idle life used .stage)
+  idle-ok life used = subst (λ (st : Stage). StageOk h (idle life used) st) (sym (idle-stage life used)) tt
+
   -- a client that is as it was
   pub same-client : (i : ℕ) (ls : List Letter) → All (LetterOk l ms h (w .clients)) ls → Good l (ms ▸ m) h (withLetters (withClient w i (clientAt w i)) ls)
   same-client i ls all =
@@ -100,12 +106,10 @@ module _ (l : Layout) (ms : Moves) (m : Move) {h : History} {w : World} (good : 
 
     -- one that is idle waits for nothing
     pub idle-newer : (life : ℕ) (used : Request) → ((s : Stamp) → NotLater (clientAt w i) s → NotLater (idle life used) s) → Newer (clientAt w i) (idle life used)
-    unfolding idle
-    idle-newer life used number-ok = record { number-ok = number-ok; none-current = λ s old current. false-true (current .is-busy) }
+    idle-newer life used number-ok = record { number-ok = number-ok; none-current = λ s old current. false-true (ap busy (sym (idle-stage life used)) ∙ current .is-busy) }
 
     -- one that has sent a request waits for none that was sent before
     sent-newer : (d : Client) → d .life ≡ clientAt w i .life → d .used ≡ clientAt w i .used → Newer (clientAt w i) (numbered d (next d))
-    unfolding numbered
     sent-newer d life used = record { number-ok = numbers; none-current = none }
       where
         same : d .used .0 ≡ clientAt w i .used .0
@@ -122,7 +126,6 @@ module _ (l : Layout) (ms : Moves) (m : Move) {h : History} {w : World} (good : 
     -- the request that it has sent
     sent-letter : (d : Client) (q : Query) → isClient i ≡ true → WaitsFor d (q .ask) (q .page) (q .layout) → AskOk h (q .ask) (q .page) (q .layout) →
         LetterOk l ms h (set (w .clients) (i - 1) (numbered d (next d))) (request (record { client = i; life = d .life; number = next d }) q)
-    unfolding numbered
     sent-letter d q is waits asks =
         let at = sym (set-here (λ j c. Unit {0}) (λ j. fresh) (w .clients) 4 i (numbered d (next d)) (good .clients-long) low high) in
         let s : Stamp = record { client = i; life = d .life; number = next d } in
@@ -133,7 +136,7 @@ module _ (l : Layout) (ms : Moves) (m : Move) {h : History} {w : World} (good : 
         }
 
     pub turned-ok : isClient i ≡ true → (ls : List Letter) → All (LetterOk l ms h (w .clients)) ls → (t : Turn) → TurnOk h (clientAt w i) t → Next l ms m h w (turned w ls i t)
-    unfolding turned rests over numbered idle
+    unfolding turned
     turned-ok is ls all t rests-ok = silent (turned w ls i t) refl (same-client i (ls ++ []) (all-same ls all))
     turned-ok is ls all t (sent-ok d q life used waiting stage waits asks) =
         silent (turned w ls i (sent d q)) refl
@@ -141,11 +144,12 @@ module _ (l : Layout) (ms : Moves) (m : Move) {h : History} {w : World} (good : 
     turned-ok is ls all t (over-ok d n g life used ok) = record {
       now = h;
       part = here;
-      good = new-client (idle (d .life) (d .used)) ls _ (idle-newer (d .life) (d .used) numbers) tt all (λ newer. all-same ls newer);
+      good = new-client (idle (d .life) (d .used)) ls _ (idle-newer (d .life) (d .used) numbers) (idle-ok (d .life) (d .used)) all (λ newer. all-same ls newer);
       asked = λ n. either;
       outcome-ok = λ c from to who. subst (λ j. OutcomeOk h (clientAt w j .work) (clientAt w j .page) (outcomeOf d n g)) who ok;
     }
       where
         numbers : (s : Stamp) → NotLater (clientAt w i) s → NotLater (idle (d .life) (d .used)) s
-        numbers s (older-life lt) = older-life (omega (arith, life))
-        numbers s (this-life e le) = this-life (e ∙ sym life) (omega (arith, ap (λ (n : Request). n .0) used))
+        numbers s (older-life lt) = older-life (omega (arith, life, idle-life (d .life) (d .used)))
+        numbers s (this-life e le) =
+            this-life (e ∙ (sym life ∙ sym (idle-life (d .life) (d .used)))) (omega (arith, ap (λ (n : Request). n .0) used, ap (λ (n : Request). n .0) (idle-used (d .life) (d .used))))

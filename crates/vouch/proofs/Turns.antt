@@ -1,11 +1,9 @@
 -- What comes of a client's turn: it rests, what it sends vouches for what it must, or its outcome does.
 -- Rests on Meaning.
 use mathlib.Core.Path.{_≡_, refl}
-use mathlib.Core.Bool.{Bool, true, false, cond}
+use mathlib.Core.Bool.{true}
 use Prim.Native.Nat.{ℕ}
 use native.Mathlib.Omega.{arith}
-use lib.Dec.{eqb, leb}
-use borrow.Author.Tests.{eqb-false}
 use Rattle.num.specs.declared.Position.{Position}
 use Rattle.num.specs.declared.Request.{Request}
 use Rattle.client.specs.declared.Page.{Page as PageValue}
@@ -13,17 +11,18 @@ use Rattle.client.specs.declared.Query.{Query}
 use Rattle.client.specs.declared.Work.{Work}
 use Rattle.client.specs.declared.Work.the-variants as work
 use Rattle.client.specs.declared.Stage.{Stage}
-use Rattle.client.specs.declared.Stage.the-variants.{Idle, Fetching, Drawing, Writing, Reading, Filling, Looking, Trimming, Pruning, Sealing, Offering, Starting}
+use Rattle.client.specs.declared.Stage.the-variants.{Idle, Fetching, Working}
 use Rattle.client.specs.declared.Client.{Client}
 use Rattle.client.specs.declared.Outcome.{Outcome}
 use Rattle.client.specs.declared.turn.Turn.{Turn}
 use Rattle.client.specs.Message.{noPage}
-use Rattle.client.specs.Client.{busy, lastNumber}
+use Rattle.client.specs.Client.{busy}
 use Rattle.client.specs.Turn.{outcomeOf, rests, over, ends, numbered, sent, sends, otherwise}
+use Rattle.client.proofs.Turns.{sends-cases, otherwise-cases}
 use Rattle.history.specs.Words.{Answer}
 use Rattle.history.specs.History.{History}
-use Rattle.vouch.specs.Runs.{Returns}
-use Rattle.vouch.specs.Runs.Returns.{returns-page, returns-trimmed, returns-unwritten}
+use Rattle.vouch.proofs.Fields.{Returns}
+use Rattle.vouch.proofs.Fields.Returns.{returns-page, returns-trimmed, returns-unwritten}
 use Rattle.vouch.proofs.Meaning.{AskOk, StageOk, WaitsFor, OutcomeOk}
 
 -- c is the client before its turn
@@ -42,12 +41,10 @@ no-return a b c (returns-unwritten e) = c e
 
 -- with a number that is none of 0, 5, 7
 pub quiet-ok : {h : History} {w : Work} {x : PageValue} (c : Client) (n : ℕ) → ¬ (n ≡ 0) → ¬ (n ≡ 5) → ¬ (n ≡ 7) → OutcomeOk h w x (outcomeOf c n noPage)
-unfolding outcomeOf
 quiet-ok c n n0 n5 n7 = record { append-done = λ is done. absurd (n0 done); was-read = λ is returns. absurd (no-return n0 n5 n7 returns) }
 
 -- an append's, with a number that is not 0
 pub append-quiet : {h : History} {w : Work} {x : PageValue} (c : Client) (n : ℕ) → w ≡ work.Append → ¬ (n ≡ 0) → OutcomeOk h w x (outcomeOf c n noPage)
-unfolding outcomeOf
 append-quiet {w = w} c n is-append n0 = record { append-done = λ is done. absurd (n0 done); was-read = λ is returns. absurd (append-not-read is-append is) }
   where
     append-not-read : {p : Position} → w ≡ work.Append → w ≡ work.Read p → ⊥
@@ -79,39 +76,19 @@ other-quiet other = record { append-done = λ is done. absurd (other-not-append 
 
 module _ {h : History} {c : Client} where
   pub ends-ok : (d : Client) (n : ℕ) → d .life ≡ c .life → d .used ≡ c .used → OutcomeOk h (c .work) (c .page) (outcomeOf d n noPage) → TurnOk h c (ends d n)
-  unfolding ends
   ends-ok d n same used ok = over-ok d n noPage same used ok
 
   -- with no number left to send it ends with 19, and an end with 19 says nothing
   pub sends-ok : (d : Client) (q : Query) → d .life ≡ c .life → d .used ≡ c .used → busy (d .stage) ≡ true → StageOk h d (d .stage) →
       WaitsFor d (q .ask) (q .page) (q .layout) → AskOk h (q .ask) (q .page) (q .layout) → TurnOk h c (sends d q)
-  unfolding sends
-  sends-ok d q same used waiting stage waits asks = go (leb lastNumber (d .used .0))
-    where
-      go : (b : Bool) → TurnOk h c (cond b (ends d 19) (sent d q))
-      go true = ends-ok d 19 same used (quiet-ok d 19 (omega arith) (omega arith) (omega arith))
-      go false = sent-ok d q same used waiting stage waits asks
+  sends-ok d q same used waiting stage waits asks =
+      sends-cases (TurnOk h c) d q (λ spent. ends-ok d 19 same used (quiet-ok d 19 (omega arith) (omega arith) (omega arith))) (λ left. sent-ok d q same used waiting stage waits asks)
 
   pub otherwise-ok : (n : ℕ) → (¬ (n ≡ 0) → OutcomeOk h (c .work) (c .page) (outcomeOf c n noPage)) → TurnOk h c (otherwise c n)
-  unfolding otherwise
-  otherwise-ok n ok = go (eqb n 0) refl
-    where
-      go : (b : Bool) → eqb n 0 ≡ b → TurnOk h c (cond b (rests c) (ends c n))
-      go true e = rests-ok
-      go false e = ends-ok c n refl refl (ok (eqb-false n 0 e))
+  otherwise-ok n ok = otherwise-cases (TurnOk h c) c n (λ none. rests-ok) (λ not-fine. ends-ok c n refl refl (ok not-fine))
 
 -- the numbers that a client has used do not matter to what it vouches for
 pub stage-numbered : (h : History) (c : Client) (n : Request) (st : Stage) → StageOk h c st → StageOk h (numbered c n) st
-unfolding numbered
 stage-numbered h c n Idle ok = ok
 stage-numbered h c n Fetching ok = ok
-stage-numbered h c n (Drawing k) ok = ok
-stage-numbered h c n (Writing u k) ok = ok
-stage-numbered h c n (Reading u) ok = ok
-stage-numbered h c n (Filling u) ok = ok
-stage-numbered h c n (Looking u) ok = ok
-stage-numbered h c n (Trimming u) ok = ok
-stage-numbered h c n (Pruning u) ok = ok
-stage-numbered h c n (Sealing u x) ok = ok
-stage-numbered h c n (Offering p) ok = ok
-stage-numbered h c n Starting ok = ok
+stage-numbered h c n (Working s) ok = ok

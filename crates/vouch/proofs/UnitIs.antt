@@ -8,7 +8,8 @@ use Rattle.num.specs.Limits.{limit}
 use Rattle.num.specs.declared.Position.{Position}
 use Rattle.layout.specs.Value.{blank}
 use Rattle.unit.specs.declared.shape.Shape.{Shape}
-use Rattle.unit.specs.State.{Slot, State}
+use Rattle.unit.specs.Kinds.{noKind, isGone}
+use Rattle.unit.specs.State.{Content, State}
 use Rattle.unit.specs.Memory.{valid}
 use Rattle.unit.proofs.Shown.{shown}
 use Rattle.client.specs.declared.Page.{Page as PageValue}
@@ -19,20 +20,21 @@ use Rattle.rule.specs.Serve.{bare}
 use Rattle.history.specs.Words.{UnitNo, Pos, Epoch, Page, Answer, Before}
 use Rattle.history.specs.Words.Answer.{shows, trimmed, unwritten}
 use Rattle.history.specs.Maps.{Map}
-use Rattle.history.specs.History.{History, MarkedBy, sealed}
-use Rattle.history.specs.History.Event.{write, trim, prune, seal}
+use Rattle.history.specs.History.{Stretch, History, Mark, MarkedBy, sealed}
+use Rattle.history.specs.History.Event.{mark, seal}
 use Rattle.history.specs.History.History.{_▹_}
+use Rattle.history.specs.History.Stretch.{only}
 use Rattle.history.specs.History.Mark.{page}
-use Rattle.history.specs.Events.{Takes, MayWrite, MayTrim, MayPrune, MaySeal}
-use Rattle.history.specs.Edges.{SealAnswer}
+use Rattle.history.specs.Events.{Takes, MayMark, MaySeal}
+use Rattle.history.specs.Edges.{EdgeAt}
 use Rattle.history.specs.Safety.{Answers}
-use Rattle.vouch.specs.Pages.{pageOf, carried}
+use Rattle.vouch.proofs.Carried.{pageOf, carried}
 
--- what a slot answers to a read: "trimmed" of kind 3, "unwritten" where there is none (kind 0), and otherwise its page
-unfoldable pub answerOf : Slot → Answer
-answerOf s = cond (eqb (s .kind) 3) trimmed (cond (eqb (s .kind) 0) unwritten (shows (pageOf (s .kind) (s .payload))))
+-- what a position answers to a read: "trimmed" where it is gone, "unwritten" where it has no slot, and otherwise its page
+unfoldable pub answerOf : Content → Answer
+answerOf s = cond (isGone (s .kind)) trimmed (cond (eqb (s .kind) noKind) unwritten (shows (pageOf (s .kind) (s .payload))))
 
--- M is the state of the unit u, of the shape sh, after h: its sealed epoch, and what it shows at every position (below the floor a slot of kind 3).
+-- M is the state of the unit u, of the shape sh, after h: its sealed epoch, and what it shows at every position (below the floor that it is gone).
 -- Its edge is one too: `edge-is`.
 pub record UnitIs (sh : Shape) (h : History) (u : UnitNo) (M : State) : Type 0 where
   pub is-valid : valid sh M ≡ true
@@ -43,21 +45,17 @@ pub record UnitIs (sh : Shape) (h : History) (u : UnitNo) (M : State) : Type 0 w
 
 -- 6 at a unit that is not the first of its set: it has that very page
 pub data WriteDone (sh : Shape) (h : History) (u : UnitNo) (L : Map) (p : Pos) (X : Page) (e : Epoch) (M : State) : Reply → Type 0 where
-  did-write : MayWrite h u L p X → UnitIs sh (h ▹ write u L p X) u M → WriteDone sh h u L p X e M Fine
+  did-write : MayMark h u e (only p) (page X) → UnitIs sh (h ▹ mark u e (only p) (page X)) u M → WriteDone sh h u L p X e M Fine
   was-written : ((v : UnitNo) → Before v u (L .set p) → MarkedBy h u p (page X) e) → UnitIs sh h u M → WriteDone sh h u L p X e M (Refused 6)
   no-write : {n : ℕ} → ¬ (n ≡ 0) → ¬ (n ≡ 6) → UnitIs sh h u M → WriteDone sh h u L p X e M (Refused n)
 
--- a trim or prune that is fine is an event, also where it changes nothing
-pub data TrimDone (sh : Shape) (h : History) (u : UnitNo) (L : Map) (p : Pos) (M : State) : Reply → Type 0 where
-  did-trim : MayTrim h u L p → UnitIs sh (h ▹ trim u L p) u M → TrimDone sh h u L p M Fine
-  no-trim : {n : ℕ} → ¬ (n ≡ 0) → UnitIs sh h u M → TrimDone sh h u L p M (Refused n)
-
-pub data PruneDone (sh : Shape) (h : History) (u : UnitNo) (L : Map) (q : Pos) (M : State) : Reply → Type 0 where
-  did-prune : MayPrune h u L q → UnitIs sh (h ▹ prune u L q) u M → PruneDone sh h u L q M Fine
-  no-prune : {n : ℕ} → ¬ (n ≡ 0) → UnitIs sh h u M → PruneDone sh h u L q M (Refused n)
+-- a mark that is taken is an event, also where it changes nothing
+pub data MarkDone (sh : Shape) (h : History) (u : UnitNo) (e : Epoch) (ps : Stretch) (m : Mark) (M : State) : Reply → Type 0 where
+  did-mark : MayMark h u e ps m → UnitIs sh (h ▹ mark u e ps m) u M → MarkDone sh h u e ps m M Fine
+  no-mark : {n : ℕ} → ¬ (n ≡ 0) → UnitIs sh h u M → MarkDone sh h u e ps m M (Refused n)
 
 pub data SealDone (sh : Shape) (h : History) (u : UnitNo) (n : Epoch) (M : State) : Reply → Type 0 where
-  did-seal : {g : Position} → MaySeal h u n → UnitIs sh (h ▹ seal u n) u M → SealAnswer (h ▹ seal u n) u n (g .0) → g .0 ≤ limit → SealDone sh h u n M (Edge g)
+  did-seal : {g : Position} → MaySeal h u n → UnitIs sh (h ▹ seal u n) u M → EdgeAt (h ▹ seal u n) u n (g .0) → g .0 ≤ limit → SealDone sh h u n M (Edge g)
   no-seal : {k : ℕ} → ¬ (k ≡ 0) → UnitIs sh h u M → SealDone sh h u n M (Refused k)
 
 -- a read leaves the unit as it was

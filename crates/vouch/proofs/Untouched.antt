@@ -3,28 +3,29 @@
 use mathlib.Core.Path.{_≡_, refl, sym, ap, subst, _∙_}
 use Prim.Native.Nat.{_≤_}
 use Rattle.unit.specs.declared.shape.Shape.{Shape}
-use Rattle.unit.specs.State.{Slot, State, nothing, edge}
+use Rattle.unit.specs.State.{Content, State, contentOf, nothing, edge}
 use Rattle.unit.specs.Unit.{freshUnit}
+use Rattle.unit.proofs.Questions.{none-stays}
 use Rattle.unit.proofs.Keeping.{fresh-valid}
 use Rattle.unit.proofs.Shown.{shown-fresh, shown-edge}
-use Rattle.history.specs.Words.{UnitNo, Pos, Epoch, Page}
+use Rattle.history.specs.Words.{UnitNo, Pos, Epoch}
 use Rattle.history.specs.Words.Answer.{unwritten}
 use Rattle.history.specs.Maps.{Map}
-use Rattle.history.specs.History.{Note, Event, History, Unmarked, sealed}
-use Rattle.history.specs.History.Event.{ask, write, trim, prune, seal, install}
+use Rattle.history.specs.History.{Note, Stretch, Event, History, Mark, Unmarked, sealed}
+use Rattle.history.specs.History.Event.{ask, mark, seal, install}
 use Rattle.history.specs.History.History.{fresh, _▹_}
 use Rattle.history.specs.Edges.{Edge}
 use Rattle.history.specs.Safety.{Answers}
 use Rattle.history.specs.Safety.Answers.{has-none}
 use Rattle.history.proofs.Marks.{no-mark}
-use Rattle.history.proofs.Units.{Touches, write-touches, trim-touches, prune-touches, ask-touches, seal-touches, install-touches, answers-on, sealed-other}
+use Rattle.history.proofs.Units.{Touches, mark-touches, ask-touches, seal-touches, install-touches, answers-on, sealed-other}
 use Rattle.vouch.proofs.UnitIs.{answerOf, UnitIs}
 
 -- ---- where nothing is shown
 
-pub none-answers : {s : Slot} → s ≡ nothing → answerOf s ≡ unwritten
+pub none-answers : {s : Content} → s ≡ contentOf nothing → answerOf s ≡ unwritten
 unfolding answerOf
-none-answers e = ap answerOf e
+none-answers e = ap answerOf e ∙ rw none-stays
 
 pub not-marked : {h : History} {u : UnitNo} {p : Pos} → Answers h u p unwritten → Unmarked h u p
 not-marked (has-none unmarked) = unmarked
@@ -61,17 +62,9 @@ module _ {sh : Shape} {h : History} {v : UnitNo} {M : State} (is : UnitIs sh h v
   install-is = other-is (λ p. install-touches) refl is
 
   module _ {u : UnitNo} (other : ¬ (v ≡ u)) where
-    pub write-others : {L : Map} {p : Pos} {X : Page} → UnitIs sh (h ▹ write u L p X) v M
+    pub mark-others : {e : Epoch} {ps : Stretch} {m : Mark} → UnitIs sh (h ▹ mark u e ps m) v M
     unfolding sealed
-    write-others = other-is (λ p t. other (write-touches t .0)) refl is
-
-    pub trim-others : {L : Map} {p : Pos} → UnitIs sh (h ▹ trim u L p) v M
-    unfolding sealed
-    trim-others = other-is (λ p t. other (trim-touches t .0)) refl is
-
-    pub prune-others : {L : Map} {q : Pos} → UnitIs sh (h ▹ prune u L q) v M
-    unfolding sealed
-    prune-others = other-is (λ p t. other (prune-touches t .0)) refl is
+    mark-others = other-is (λ p t. other (mark-touches t .0)) refl is
 
     pub seal-others : {n : Epoch} → UnitIs sh (h ▹ seal u n) v M
     seal-others {n} = other-is (λ p. seal-touches) (sealed-other h u v n other) is

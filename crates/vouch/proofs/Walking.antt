@@ -13,17 +13,19 @@ use Rattle.layout.specs.Places.{setAt, headOf, after}
 use Rattle.layout.proofs.Values.{value-of-good}
 use Rattle.history.specs.Words.{UnitNo, Pos, Page, Before}
 use Rattle.history.specs.Maps.{Map, Has, Serves, Good}
-use Rattle.history.specs.History.{History, Noted, PageNoted, Mark, MarkedBy}
-use Rattle.history.specs.History.Note.{trimAt, pruneTo}
+use Rattle.history.specs.History.{History, Noted, MarkNoted, Mark, MarkedBy}
+use Rattle.history.specs.History.Note.{pruneTo}
+use Rattle.history.specs.History.Stretch.{only, upTo}
 use Rattle.history.specs.History.Mark.{page, gone}
 use Rattle.history.specs.Safety.{Settled}
-use Rattle.vouch.specs.Layouts.{mapOf}
+use Rattle.vouch.proofs.Layouts.{mapOf}
 use Rattle.history.proofs.Order.{before-in, before-less, less-before}
 use Rattle.vouch.proofs.GoodMap.{good-map, epoch-of}
 use Rattle.vouch.proofs.Walks.{head-serves, head-least, after-serves, after-next, after-last}
-use Rattle.vouch.proofs.Meaning.{WriteOk, TrimOk, PruneOk, LookOk, WrittenBefore, Fetched, Walking}
+use Rattle.vouch.proofs.Meaning.{LookOk, WrittenBefore, Fetched, Walking}
 use Rattle.history.proofs.Epochs.{laid-one}
-use Rattle.history.specs.Events.{Run}
+use Rattle.history.specs.Events.{Walked, Run}
+use Rattle.history.proofs.Stretches.{of-only, upTo-covers, prune-asked}
 
 module _ {h : History} {l : Layout} (fetched : Fetched h l) where
   pub is-good : good (layOf l) ≡ true
@@ -84,22 +86,26 @@ written-there {h} {l} {p} {u} run walk was not-head =
 above : {h : History} {l : Layout} {p : Pos} {u : UnitNo} {m : Mark} → Walking h l p u m → (v : UnitNo) → Before v u (setAt (layOf l) p) → MarkedBy h v p m (l .epoch .0)
 above {p = p} walk v before = walk .behind v (before-in before) (before-less (map-good (walk .fetched) .set-rises p) before)
 
-pub write-vouches : {h : History} {l : Layout} {p : Pos} {u : UnitNo} {X : Page} → Walking h l p u (page X) → PageNoted h p X → WriteOk h u (l .epoch .0) p X
-write-vouches {l = l} walk asked = record { by = mapOf (layOf l); laid = walk .fetched .laid; epoch-is = epoch-of l; serves = walk .serves; above = above walk; asked = asked }
-
-pub trim-vouches : {h : History} {l : Layout} {p : Pos} {u : UnitNo} → Walking h l p u gone → Noted h (trimAt p) → TrimOk h u (l .epoch .0) p
-trim-vouches {l = l} walk asked = record { by = mapOf (layOf l); laid = walk .fetched .laid; epoch-is = epoch-of l; serves = walk .serves; above = above walk; asked = asked }
+pub walk-vouches : {h : History} {l : Layout} {p : Pos} {u : UnitNo} {m : Mark} → Walking h l p u m → MarkNoted h p m → Walked h u (l .epoch .0) (only p) m
+walk-vouches {h} {l} {p} {u} {m} walk asked = record {
+  by = mapOf (layOf l);
+  laid = walk .fetched .laid;
+  epoch-is = epoch-of l;
+  has = map-good (walk .fetched) .set-within p u (walk .serves);
+  above = of-only (λ q. (v : UnitNo) → Before v u (setAt (layOf l) q) → MarkedBy h v q m (l .epoch .0)) (above walk);
+  asked = of-only (λ q. MarkNoted h q m) asked;
+}
 
 pub look-vouches : {h : History} {l : Layout} {p : Pos} {u : UnitNo} → Fetched h l → Serves (mapOf (layOf l)) p u → LookOk h u (l .epoch .0) p
 look-vouches {l = l} fetched serves = record { by = mapOf (layOf l); laid = fetched .laid; epoch-is = epoch-of l; serves = serves }
 
 pub prune-vouches : {h : History} {l : Layout} {q : Pos} {u : UnitNo} → Fetched h l → Has (mapOf (layOf l)) u →
-    ((v : UnitNo) → Has (mapOf (layOf l)) v → v < u → (p : Pos) → p < q → MarkedBy h v p gone (l .epoch .0)) → Noted h (pruneTo q) → PruneOk h u (l .epoch .0) q
+    ((v : UnitNo) → Has (mapOf (layOf l)) v → v < u → (p : Pos) → p < q → MarkedBy h v p gone (l .epoch .0)) → Noted h (pruneTo q) → Walked h u (l .epoch .0) (upTo q) gone
 prune-vouches {l = l} fetched has behind asked = record {
   by = mapOf (layOf l);
   laid = fetched .laid;
   epoch-is = epoch-of l;
   has = has;
-  above = λ v before. behind v (before-in before) (before-less (map-good fetched .units-rise) before);
-  asked = asked;
+  above = λ p there v before. behind v (map-good fetched .set-within p v (before-in before)) (before-less (map-good fetched .set-rises p) before) p (upTo-covers there);
+  asked = prune-asked asked;
 }

@@ -22,7 +22,7 @@ use Rattle.layout.proofs.Sets.{after-next as after-is, head-least as head-is-le
 use Rattle.history.specs.Words.{UnitNo, Pos, Last}
 use Rattle.history.specs.Words.Last.{last-here, last-later}
 use Rattle.history.specs.Maps.{Has, Serves}
-use Rattle.vouch.specs.Layouts.{mapOf}
+use Rattle.vouch.proofs.Layouts.{mapOf}
 use Rattle.vouch.proofs.GoodMap.{to-in, of-in, set-rising}
 
 -- ---- head to tail

@@ -1,7 +1,7 @@
--- Demand 3's last sentence: "If each set still has a working unit, one undisturbed reorganise that drops the stopped ones makes the page answerable again."
+-- Demand 3's last sentence: "If each set still has a working unit, one undisturbed reorganise that drops the stopped ones makes the page answerable again." (docs/RULES.md, 11)
 use Prim.Native.Nat.{ℕ, zero, suc, _+_, _≤_, _<_}
 use mathlib.Core.Path.{_≡_}
-use mathlib.Core.Bool.{Bool, true, false, cond}
+use mathlib.Core.Bool.{Bool, true, false, not, cond}
 use mathlib.Core.List.{List, [], _∷_}
 use lib.Dec.{eqb}
 use lib.ListN.{length, getD}
@@ -9,33 +9,33 @@ use Rattle.num.specs.Limits.{lastEpoch}
 use Rattle.num.specs.declared.Position.{Position}
 use Rattle.layout.specs.declared.Layout.{Layout}
 use Rattle.layout.specs.Lay.{Lay, _in?_, unitsOf}
-use Rattle.layout.specs.Value.{layOf, padded}
+use Rattle.layout.specs.Value.{layOf}
 use Rattle.layout.specs.Places.{setAt, tailOf}
 use Rattle.layout.specs.Plan.{planned}
-use Rattle.unit.specs.Unit.{readSays, readShows}
-use Rattle.client.specs.declared.Page.{Page as PageValue}
-use Rattle.client.specs.declared.Work.the-variants.{Append, Read}
+use Rattle.unit.specs.Unit.{Request, says, report}
+use Rattle.unit.specs.Unit.Request.{read}
+use Rattle.client.specs.declared.Page.{Page}
+use Rattle.client.specs.declared.Work.the-variants.{Append, Read, Reorganise}
 use Rattle.client.specs.declared.Stage.the-variants.{Idle}
-use Rattle.client.specs.declared.Change.{Change}
 use Rattle.client.specs.declared.state.Job.{Job}
 use Rattle.client.specs.declared.Outcome.{Outcome}
 use Rattle.client.specs.Message.{noPage}
-use Rattle.client.specs.Client.{noChange, jobOf, reorganiseOf, dropLimit, lastNumber}
+use Rattle.client.specs.Client.{jobOf, dropLimit, lastNumber}
+use Rattle.client.specs.Way.{dropsOf}
 use Rattle.rule.specs.declared.Step.the-variants.{Begin, Deliver}
-use Rattle.rule.specs.World.{World, isClient, running, clientAt, unitAt}
+use Rattle.rule.specs.World.{World, shapeUnder, isClient, isUnit, running, clientAt, unitAt}
 use Rattle.rule.specs.Serve.{pageOf}
 use Rattle.rule.specs.Steps.{Done}
-use Rattle.history.specs.Words.{Page, Answer}
-use Rattle.vouch.specs.Runs.{Move, Moves, result, world, Returns}
+use Rattle.vouch.specs.Runs.{Move, Moves, _≼_, Stepping, resultBy, worldBy}
 use Rattle.vouch.specs.Runs.Moves.{_▸_}
-use Rattle.vouch.specs.Demand.{Rightly}
+use Rattle.vouch.specs.Demand.{AppendDone, Rightly}
 
 -- ---- a run of steps with no other between
 
 -- the moves one after another, each answered with 0; no operation ends before the last of them, which comes to d
-pub data Goes : World → List Move → Done → Type 0 where
-  ends : {w : World} {m : Move} → result w m .answer ≡ 0 → Goes w (m ∷ []) (result w m)
-  goes : {w : World} {m : Move} {ms : List Move} {d : Done} → result w m .answer ≡ 0 → result w m .who ≡ 0 → Goes (result w m .world) ms d → Goes w (m ∷ ms) d
+pub data Goes (f : Stepping) : World → List Move → Done → Type 0 where
+  ends : {w : World} {m : Move} → resultBy f w m .answer ≡ 0 → Goes f w (m ∷ []) (resultBy f w m)
+  goes : {w : World} {m : Move} {ms : List Move} {d : Done} → resultBy f w m .answer ≡ 0 → resultBy f w m .who ≡ 0 → Goes f (resultBy f w m .world) ms d → Goes f w (m ∷ ms) d
 
 abbrev pub begin : ℕ → Job → Move
 begin c j = record { does = Begin c; job = j }
@@ -59,10 +59,6 @@ stoppedFrom u (b ∷ bs) = cond b (u ∷ stoppedFrom (suc u) bs) (stoppedFrom (s
 abbrev pub stoppedUnits : World → List ℕ
 stoppedUnits w = stoppedFrom 1 (w .stopped)
 
--- no new range is asked
-abbrev pub dropStopped : World → Change
-dropStopped w = record { count = length (stoppedUnits w); drops = padded dropLimit 0 (stoppedUnits w); wish = noChange .wish }
-
 -- the new layout: epoch plus 1, the stopped units gone from every set
 abbrev pub newLayout : World → Lay
 newLayout w = planned (layOf (w .held)) (stoppedUnits w) [] 0
@@ -71,9 +67,9 @@ newLayout w = planned (layOf (w .held)) (stoppedUnits w) [] 0
 abbrev pub unitCount : World → ℕ
 unitCount w = length (unitsOf (newLayout w .sets))
 
--- n + 3 requests
-abbrev pub reorganising : World → ℕ → List Move
-reorganising w c = begin c (reorganiseOf (dropStopped w)) ∷ exchanges (unitCount w + 3) (length (w .letters))
+-- n + 3 requests; j, what the reorganise is asked
+abbrev pub reorganising : World → ℕ → Job → List Move
+reorganising w c j = begin c j ∷ exchanges (unitCount w + 3) (length (w .letters))
 
 -- two requests
 abbrev pub reading : World → ℕ → Position → List Move
@@ -85,6 +81,16 @@ pub record WorkingUnit (stopped : List Bool) (us : List ℕ) : Type 0 where
   pub unit : ℕ
   pub inside : (unit in? us) ≡ true
   pub works : running stopped unit ≡ true
+
+-- "drops the stopped ones": a list of up to 8 units from 1 to 8, in any order, with repeats, that names of the layout's units those that have stopped and no other;
+-- what it names besides is not in the layout
+pub record DropsStopped (w : World) (j : Job) : Type 0 where
+  pub is-reorganise : j .work ≡ Reorganise
+  pub drops-few : j .change .count ≤ dropLimit
+  pub drops-within : (u : ℕ) → (u in? dropsOf (j .change)) ≡ true → isUnit u ≡ true
+  pub drops-are : (u : ℕ) → (u in? unitsOf (layOf (w .held) .sets)) ≡ true → (u in? dropsOf (j .change)) ≡ not (running (w .stopped) u)
+  -- "no new range is asked"
+  pub no-range : j .change .wish .count ≡ 0
 
 -- client c reorganises
 pub record Conditions (w : World) (c : ℕ) : Type 0 where
@@ -106,13 +112,17 @@ pub record Conditions (w : World) (c : ℕ) : Type 0 where
 abbrev pub tailIn : World → ℕ → ℕ
 tailIn w p = tailOf (setAt (newLayout w) p)
 
+-- a read of p with the new epoch
+abbrev pub tailAsked : World → ℕ → Request
+tailAsked w p = read (record { 0 = newLayout w .epoch }) (record { 0 = p })
+
 -- What the tail has at p, as it was before the reorganise: its answer to a read with the new epoch,
 abbrev pub tailSays : World → ℕ → ℕ
-tailSays w p = readSays (unitAt w (tailIn w p)) (newLayout w .epoch) p
+tailSays w p = says (shapeUnder (w .held)) (unitAt w (tailIn w p)) (tailAsked w p)
 
 -- and its page, none unless the answer is 0.
-abbrev pub tailShows : World → ℕ → PageValue
-tailShows w p = cond (eqb (tailSays w p) 0) (pageOf (readShows (unitAt w (tailIn w p)) (newLayout w .epoch) p)) noPage
+abbrev pub tailShows : World → ℕ → Page
+tailShows w p = cond (eqb (tailSays w p) 0) (pageOf (report (shapeUnder (w .held)) (unitAt w (tailIn w p)) (tailAsked w p) .page)) noPage
 
 -- a page, trimmed or unwritten: no other answer
 pub data Answering : ℕ → Type 0 where
@@ -129,14 +139,14 @@ pub record ReadsTail (w : World) (p : Position) (o : Outcome) : Type 0 where
   pub epoch-is : o .epoch .0 ≡ newLayout w .epoch
 
 -- The reorganise ends in done with the new layout in force, and a read after it in what the tail has.
-pub record Answerable (w : World) (c : ℕ) (p : Position) : Type 0 where
+pub record Answerable (f : Stepping) (w : World) (c : ℕ) (j : Job) (p : Position) : Type 0 where
   pub reorganised : Done
-  pub reorganise-goes : Goes w (reorganising w c) reorganised
+  pub reorganise-goes : Goes f w (reorganising w c j) reorganised
   pub reorganise-ends : reorganised .who ≡ c
   pub reorganise-done : reorganised .outcome .number ≡ 0
   pub in-force : layOf (reorganised .world .held) ≡ newLayout w
   pub was-read : Done
-  pub read-goes : Goes (reorganised .world) (reading (reorganised .world) c p) was-read
+  pub read-goes : Goes f (reorganised .world) (reading (reorganised .world) c p) was-read
   pub read-ends : was-read .who ≡ c
   pub read-tells : ReadsTail w p (was-read .outcome)
 
@@ -148,9 +158,12 @@ unfoldable pub _▸▸_ : Moves → List Move → Moves
 ms ▸▸ [] = ms
 ms ▸▸ (m ∷ rest) = (ms ▸ m) ▸▸ rest
 
--- Where an append of X at p is done among the moves ms: the read returns X, or "trimmed" if a trim of p or a prune above p was asked for.
-pub record Again (l : Layout) (ms : Moves) (c : ℕ) (p : Position) (X : Page) : Type 0 where
-  pub answerable : Answerable (world l ms) c p
-  pub returned : Answer
-  pub returns : Returns (answerable .was-read .outcome) returned
-  pub rightly : Rightly l (ms ▸▸ reorganising (world l ms) c ▸▸ reading (answerable .reorganised .world) c p) (p .0) X returned
+-- Where an append of X at p is done among the moves ms: the read ends with X, or with "trimmed" if a trim of p or a prune above p was asked for.
+pub record Again (f : Stepping) (l : Layout) (ms : Moves) (c : ℕ) (j : Job) (p : Position) (X : Page) : Type 0 where
+  pub answerable : Answerable f (worldBy f l ms) c j p
+  pub rightly : Rightly f l (ms ▸▸ reorganising (worldBy f l ms) c j ▸▸ reading (answerable .reorganised .world) c p) (p .0) X (answerable .was-read .outcome)
+
+-- the last sentence of demand 3, of any step function
+pub record LastSentence (f : Stepping) (l : Layout) : Type 0 where
+  pub answerable-again : {ms₀ ms : Moves} {m₀ : Move} {c : ℕ} {j : Job} {p : Position} {X : Page} → AppendDone f l ms₀ m₀ (p .0) X → (ms₀ ▸ m₀) ≼ ms →
+      Conditions (worldBy f l ms) c → DropsStopped (worldBy f l ms) j → Again f l ms c j p X

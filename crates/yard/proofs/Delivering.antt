@@ -9,13 +9,10 @@ use borrow.Author.Tests.{ltb-true, ltb-false}
 use lib.Dec.{ltb}
 use lib.ListN.{length, getD, length-append}
 use Rattle.num.proofs.Tests.{false-true}
-use Rattle.layout.specs.declared.Layout.{Layout}
 use Rattle.unit.specs.declared.shape.Shape.{Shape}
 use Rattle.unit.specs.State.{State}
 use Rattle.sequencer.specs.declared.Sequencer.{Sequencer}
-use Rattle.client.specs.declared.Page.{Page}
 use Rattle.client.specs.declared.Ask.{Ask}
-use Rattle.client.specs.declared.Ask.the-variants.{Fetch, Token, Write, Read, Trim, Prune, Seal, Offer, Start}
 use Rattle.client.specs.declared.Reply.{Reply}
 use Rattle.client.specs.declared.Response.{Response}
 use Rattle.client.specs.declared.Stamp.{Stamp}
@@ -27,11 +24,12 @@ use Rattle.rule.specs.declared.Letter.{Letter}
 use Rattle.rule.specs.declared.Yard.{Yard}
 use Rattle.yard.specs.declared.machine.Service.{Service}
 use Rattle.rule.specs.World.{World, shapeUnder, isClient, unitLimit, blankLetter}
-use Rattle.rule.specs.Serve.{Served, serve, unserved, asking, offeringTo}
-use Rattle.rule.specs.Steps.{Done, refused, without, keeping, tooMany, withLetters, sentBy, answerTo, answers, served, taken, response, delivered, delivers}
+use Rattle.rule.specs.Serve.{ServedWorld, serve, unserved}
+use Rattle.rule.specs.Steps.{Done, refused, without, keeping, tooMany, sentBy, answerTo, answers, served, taken, response, delivered, delivers}
 use Rattle.rule.specs.Lent.{unitsIn, unitsBytes}
-use Rattle.yard.specs.Parts.{worldOf, IsServed}
-use Rattle.yard.specs.Moves.{worldWith, posting, countAfter, Moved, Decided, refusing, sends, letterOf, turning, answering}
+use Rattle.rule.proofs.Serving.{serve-clients, serve-stopped, serve-letters}
+use Rattle.yard.specs.InsideParts.{worldOf, IsServed}
+use Rattle.yard.specs.InsideMoves.{worldWith, posting, countAfter, Moved, Decided, refusing, sends, letterOf, turning, answering}
 use Rattle.yard.proofs.Letters.{getD-out}
 use Rattle.yard.proofs.Stepping.{moved-quiet, sent-is, turned-is}
 
@@ -61,32 +59,6 @@ answers-is : (b : Bool) (s : Stamp) (r : Response) → answers b s r ≡ posting
 answers-is true s r = refl
 answers-is false s r = refl
 
--- ---- the letters play no part where a machine serves, nor do the clients
-
-apart : (w : World) (ls : List Letter) (a : Ask) (g : Page) (l : Layout) → serve (withLetters w ls) a g l ≡ record { response = serve w a g l .response; world = withLetters (serve w a g l .world) ls }
-unfolding serve asking offeringTo
-apart w ls Fetch g l = refl
-apart w ls (Token e) g l = refl
-apart w ls (Write u e p) g l = refl
-apart w ls (Read u e p) g l = refl
-apart w ls (Trim u e p) g l = refl
-apart w ls (Prune u e p) g l = refl
-apart w ls (Seal u e) g l = refl
-apart w ls Offer g l = refl
-apart w ls (Start e p) g l = refl
-
-same-clients : (w : World) (a : Ask) (g : Page) (l : Layout) → (serve w a g l .world .clients ≡ w .clients) × (serve w a g l .world .stopped ≡ w .stopped)
-unfolding serve asking offeringTo
-same-clients w Fetch g l = (refl, refl)
-same-clients w (Token e) g l = (refl, refl)
-same-clients w (Write u e p) g l = (refl, refl)
-same-clients w (Read u e p) g l = (refl, refl)
-same-clients w (Trim u e p) g l = (refl, refl)
-same-clients w (Prune u e p) g l = (refl, refl)
-same-clients w (Seal u e) g l = (refl, refl)
-same-clients w Offer g l = (refl, refl)
-same-clients w (Start e p) g l = (refl, refl)
-
 -- ---- a refusal, for one that is brought a letter
 
 pub decided-moved : {sh : Shape} {l : Letter} {rule : List Letter → List State → Done} {n i : ℕ} {m : _} (us : List State) {after : List ℕ} → after ≡ unitsBytes sh us → Moved rule n i m → Decided sh l (λ ls. rule ls us) n i m after
@@ -115,12 +87,11 @@ module _ (y : Yard) (s : Sequencer) (keep k : Bool) (l : Letter) where
       unfolding delivered served
       asks-served f m {v} d =
           let w : World = worldOf y s [] m in
-          let x : Served = serve w a (l .page) (l .layout) in
-          let (cs, ss) = same-clients w a (l .page) (l .layout) in
+          let x : ServedWorld = serve w a (l .page) (l .layout) in
           record {
             units = x .world .units;
             memories-is = d .memories-is;
-            done-is = λ ls e z. rw (q, t, apart w ls a (l .page) (l .layout), full false f ls (x .response) e, answers-is k (l .stamp) (x .response), cs, ss, d .held-is, d .sequencer-is, d .response-is);
+            done-is = λ ls e z. rw (q, t, serve-letters w ls a (l .page) (l .layout), full false f ls (x .response) e, answers-is k (l .stamp) (x .response), serve-clients w a (l .page) (l .layout), serve-stopped w a (l .page) (l .layout), d .held-is, d .sequencer-is, d .response-is);
             count-is = refl;
             there = λ z. h;
             room = λ z. ltb-false 32 (countAfter (y .count) keep k) f;

@@ -27,7 +27,7 @@ use Rattle.sequencer.specs.declared.Sequencer.{Sequencer}
 use Rattle.sequencer.specs.Rules as sequencer
 use Rattle.rule.specs.Lent.{unitsBytes}
 use Rattle.rule.specs.Fresh.{freshUnits, freshNumberOf, freshNumber, freshYard, freshLent, makes}
-use Rattle.yard.specs.Prepared.{IsPrepared}
+use Rattle.yard.specs.InsidePrepared.{IsPrepared}
 use Rattle.yard.proofs.Blanks.{blanked-first, blanked-whole}
 
 -- ---- the memories

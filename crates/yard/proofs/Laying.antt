@@ -15,7 +15,7 @@ use Rattle.rule.specs.World.{blankLetter}
 use Rattle.yard.specs.Bag.{moveUp, closeUp, putAt, dropAt}
 use Rattle.rule.specs.Steps.{without, keeping}
 use Rattle.rule.specs.Lent.{laid}
-use Rattle.yard.specs.Moves.{posting, countAfter}
+use Rattle.yard.specs.InsideMoves.{posting, countAfter}
 use Rattle.yard.proofs.Delivering.{without-length}
 
 moved-is : (ls : List Letter) (n : ℕ) → n ≤ length ls → moveUp ls n ≡ take n ls ++ (blankLetter ∷ drop n ls)

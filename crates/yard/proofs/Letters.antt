@@ -27,7 +27,7 @@ row = L.the-row
 
 -- the bytes of a letter
 abbrev pub size : ℕ
-size = 336
+size = 344
 
 abbrev pub val : Letter → Val
 val = LL.val L.the-type L′.the-laws

@@ -1,17 +1,17 @@
 -- Eight unit memories in one: the part of each, and what is left where one part changes.
 use Prim.Native.Nat.{ℕ, zero, suc, _+_, _-_, _*_, _<_, _≤_}
 use mathlib.Core.Bool.{Bool, true, false, _&&_}
-use mathlib.Core.List.{List, [], _∷_, _++_, append-assoc}
+use mathlib.Core.List.{List, _++_, append-assoc}
 use mathlib.Core.Path.{_≡_, refl, sym, ap, _∙_}
 use native.Mathlib.Nat.{not-suc-le-zero, le-of-suc-le-suc}
 use native.Mathlib.Omega.{arith}
-use borrow.Author.Tests.{eqb-true, ne-eqb}
+use borrow.Author.Tests.{eqb-true}
 use lib.Dec.{eqb}
-use lib.ListN.{length, getD, take, drop, set, take-append-drop, length-take, length-drop}
-use lib.Seq.{drop-drop, take-add, getD-take, length-take-le}
+use lib.ListN.{length, getD, take, drop, set, length-take, length-drop}
+use lib.Seq.{drop-drop, take-add, getD-take}
 use Rattle.num.specs.Bytes.{le, numberAt}
 use Rattle.num.proofs.Numbers.{Bytes, bytes-drop, number-within, le-step}
-use Rattle.num.proofs.Tests.{and-both, and-false, false-true}
+use Rattle.num.proofs.Tests.{and-both}
 use Rattle.unit.specs.declared.shape.Shape.{Shape}
 use Rattle.unit.specs.Shape.{shapeFor, shapeOf}
 use Rattle.unit.specs.State.{State}
@@ -20,25 +20,13 @@ use Rattle.unit.proofs.Goodness.{is-good}
 use Rattle.unit.proofs.Shapes.{sized, for-known, names-shape}
 use Rattle.unit.proofs.Encoding.{encode-decode}
 use Rattle.client.specs.declared.Page.{Page}
-use Rattle.client.specs.declared.Ask.{Ask}
+use Rattle.client.specs.declared.UnitAsk.{UnitAsk}
 use Rattle.client.specs.declared.Response.{Response}
 use Rattle.unit.specs.Unit.{freshUnit}
 use Rattle.rule.specs.Lent.{goodUnit, goodUnits, unitsIn, unitsBytes}
-use Rattle.rule.proofs.Shaping.{tested}
-use Rattle.yard.specs.Parts.{unitOf, unitSays, unitAfter, OnUnit, AtUnit}
-
-none-left : {A : Type 0} (xs : List A) → length xs ≡ 0 → xs ≡ []
-none-left [] e = refl
-none-left (x ∷ xs) e = absurd (more (length xs) e)
-  where
-    more : (n : ℕ) → suc n ≡ 0 → ⊥
-    more n z = omega arith
-
-pub bytes-take : (n : ℕ) (xs : List ℕ) → Bytes xs → Bytes (take n xs)
-bytes-take zero xs b k = record { fits = omega arith }
-bytes-take (suc n) [] b k = b k
-bytes-take (suc n) (x ∷ xs) b zero = b 0
-bytes-take (suc n) (x ∷ xs) b (suc k) = bytes-take n xs (λ i. b (suc i)) k
+use Rattle.rule.specs.Serve.{unitSays, unitAfter}
+use Rattle.rule.proofs.Testing.{bytes-take, good-parts, good-here, units-same}
+use Rattle.yard.specs.InsideParts.{unitOf, OnUnit, AtUnit}
 
 -- the memory of the unit k, counted from 0
 abbrev pub part : List ℕ → ℕ → List ℕ
@@ -58,26 +46,18 @@ module _ (shape : ℕ) where
   abbrev sh : Shape
   sh = shapeFor shape
 
-  -- one memory and the others
-  good-parts : (u n : ℕ) (m : List ℕ) → goodUnits shape u (suc n) m ≡ true → (goodUnit shape u (take 6168 m) ≡ true) × (goodUnits shape (suc u) n (drop 6168 m) ≡ true)
-  unfolding goodUnits
-  good-parts u n m g = and-both (goodUnit shape u (take 6168 m)) (goodUnits shape (suc u) n (drop 6168 m)) g
-
-  good-here : (u n : ℕ) (m : List ℕ) → goodUnits shape u (suc n) m ≡ true → good sh (take 6168 m) ≡ true
-  good-here u n m g = tested shape u (take 6168 m) (good-parts u n m g .0) .0
-
   pub good-long : (u n : ℕ) (m : List ℕ) → goodUnits shape u n m ≡ true → length m ≡ n * 6168
   unfolding goodUnits
   good-long u zero m g = eqb-true (length m) 0 g
   good-long u (suc n) m g =
-      let h = is-good sh (take 6168 m) (good-here u n m g) .size ∙ sized shape .whole in
-      let r : length (drop 6168 m) ≡ n * 6168 = good-long (suc u) n (drop 6168 m) (good-parts u n m g .1) in
+      let h = is-good sh (take 6168 m) (good-here shape u n m g) .size ∙ sized shape .whole in
+      let r : length (drop 6168 m) ≡ n * 6168 = good-long (suc u) n (drop 6168 m) (good-parts shape u n m g .1) in
       omega (arith, h, length-take 6168 m, length-drop 6168 m)
 
   pub good-part : (u n : ℕ) (m : List ℕ) (k : ℕ) → goodUnits shape u n m ≡ true → k < n → good sh (part m k) ≡ true
   good-part u zero m k g h = absurd (not-suc-le-zero h)
-  good-part u (suc n) m zero g h = good-here u n m g
-  good-part u (suc n) m (suc k) g h = rw (next m k) (good-part (suc u) n (drop 6168 m) k (good-parts u n m g .1) (le-of-suc-le-suc h))
+  good-part u (suc n) m zero g h = good-here shape u n m g
+  good-part u (suc n) m (suc k) g h = rw (next m k) (good-part (suc u) n (drop 6168 m) k (good-parts shape u n m g .1) (le-of-suc-le-suc h))
 
   -- each names the yard's shape
   pub part-shape : (u n : ℕ) (m : List ℕ) (k : ℕ) → goodUnits shape u n m ≡ true → k < n → shapeOf (part m k) ≡ sh
@@ -86,23 +66,16 @@ module _ (shape : ℕ) where
   pub part-good : (u n : ℕ) (m : List ℕ) (k : ℕ) → goodUnits shape u n m ≡ true → k < n → good (shapeOf (part m k)) (part m k) ≡ true
   part-good u n m k g h = rw (part-shape u n m k g h) (good-part u n m k g h)
 
-  -- THE BYTES OF ITS UNITS ARE THE MEMORY
-  pub units-same : (u n : ℕ) (m : List ℕ) → Bytes m → goodUnits shape u n m ≡ true → unitsBytes sh (unitsIn sh n m) ≡ m
-  unfolding unitsBytes unitsIn goodUnits
-  units-same u zero m b g = sym (none-left m (eqb-true (length m) 0 g))
-  units-same u (suc n) m b g =
-      rw (encode-decode sh (take 6168 m) (bytes-take 6168 m b) (good-here u n m g), units-same (suc u) n (drop 6168 m) (bytes-drop 6168 m b) (good-parts u n m g .1)) (take-append-drop 6168 m)
-
   -- ONE PART CHANGED IS ONE UNIT CHANGED
   pub part-changed : (u n : ℕ) (m : List ℕ) (k : ℕ) (s : State) → Bytes m → goodUnits shape u n m ≡ true → k < n
       → take (k * 6168) m ++ (encode sh s ++ drop 6168 (drop (k * 6168) m)) ≡ unitsBytes sh (set (unitsIn sh n m) k s)
   unfolding unitsBytes unitsIn
   part-changed u zero m k s b g h = absurd (not-suc-le-zero h)
-  part-changed u (suc n) m zero s b g h = rw (units-same (suc u) n (drop 6168 m) (bytes-drop 6168 m b) (good-parts u n m g .1))
+  part-changed u (suc n) m zero s b g h = rw (units-same shape (suc u) n (drop 6168 m) (bytes-drop 6168 m b) (good-parts shape u n m g .1))
   part-changed u (suc n) m (suc k) s b g h =
       let e : suc k * 6168 ≡ 6168 + k * 6168 = omega arith in
-      rw (e, take-add 6168 (k * 6168) m, ← drop-drop (k * 6168) 6168 m, append-assoc, encode-decode sh (take 6168 m) (bytes-take 6168 m b) (good-here u n m g))
-      (ap (λ (l : List ℕ). take 6168 m ++ l) (part-changed (suc u) n (drop 6168 m) k s (bytes-drop 6168 m b) (good-parts u n m g .1) (le-of-suc-le-suc h)))
+      rw (e, take-add 6168 (k * 6168) m, ← drop-drop (k * 6168) 6168 m, append-assoc, encode-decode sh (take 6168 m) (bytes-take 6168 m b) (good-here shape u n m g))
+      (ap (λ (l : List ℕ). take 6168 m ++ l) (part-changed (suc u) n (drop 6168 m) k s (bytes-drop 6168 m b) (good-parts shape u n m g .1) (le-of-suc-le-suc h)))
 
 -- and so does the first byte but one of all of them
 pub first-names : (shape : ℕ) (m : List ℕ) → goodUnits shape 1 8 m ≡ true → codeOf m ≡ shape
@@ -165,7 +138,7 @@ wrong-length shape m h = go (goodUnits shape 1 8 m) refl
     go false g = refl
 
 -- a request at one part is a request at its unit; the part is long and starts where the unit's memory does
-pub at-part : (shape : ℕ) (m : List ℕ) (u : ℕ) (ask : Ask) (page : Page) {start long : ℕ} {r : Response} {after : List ℕ} → Bytes m → goodUnits shape 1 8 m ≡ true → u - 1 < 8 → long ≡ 6168 → start ≡ (u - 1) * 6168
+pub at-part : (shape : ℕ) (m : List ℕ) (u : ℕ) (ask : UnitAsk) (page : Page) {start long : ℕ} {r : Response} {after : List ℕ} → Bytes m → goodUnits shape 1 8 m ≡ true → u - 1 < 8 → long ≡ 6168 → start ≡ (u - 1) * 6168
     → (let p = take long (drop start m) in OnUnit (shapeOf p) (unitSays (shapeOf p) (decode (shapeOf p) p) ask page) (unitAfter (shapeOf p) (decode (shapeOf p) p) ask page) r after)
     → (let sh = shapeFor shape in AtUnit sh m u (unitSays sh (unitOf sh m u) ask page) (unitAfter sh (unitOf sh m u) ask page) r (take start m ++ (after ++ drop long (drop start m))))
 at-part shape m u ask page {start} {long} b g h e f d =

@@ -7,7 +7,7 @@ use native.Mathlib.Nat.{not-suc-le-zero, le-of-suc-le-suc}
 use native.Mathlib.Omega.{arith}
 use borrow.Author.Tests.{leb-true, le-leb, lt-leb}
 use lib.Dec.{leb}
-use lib.ListN.{length, getD, set}
+use lib.ListN.{length, getD}
 use Rattle.num.proofs.Tests.{and-both, and-false}
 use Rattle.rule.specs.World.{isClient, isUnit, running}
 
@@ -16,11 +16,6 @@ pub getD-any : {A : Type 0} (xs : List A) (i : ℕ) (d e : A) → i < length xs 
 getD-any [] i d e h = absurd (not-suc-le-zero h)
 getD-any (x ∷ xs) zero d e h = refl
 getD-any (x ∷ xs) (suc i) d e h = getD-any xs i d e (le-of-suc-le-suc h)
-
-pub set-same : {A : Type 0} (xs : List A) (i : ℕ) (d : A) → set xs i (getD xs i d) ≡ xs
-set-same [] i d = refl
-set-same (x ∷ xs) zero d = refl
-set-same {A} (x ∷ xs) (suc i) d = ap (λ (l : List A). x ∷ l) (set-same xs i d)
 
 -- clients are numbered from 1 to 4
 pub record Numbered (c : ℕ) : Type 0 where

@@ -5,11 +5,11 @@ use mathlib.Core.Bool.{Bool, true, false, _&&_, _||_, not, and-true}
 use mathlib.Core.List.{List, [], _∷_, _++_}
 use mathlib.Core.Path.{_≡_, sym, _∙_}
 use native.Mathlib.Omega.{arith}
-use borrow.Author.Tests.{eqb-true, eq-eqb, ne-eqb, ltb-false, le-ltb, not-false}
-use lib.Dec.{eqb, leb, ltb}
+use borrow.Author.Tests.{eq-eqb, ne-eqb, le-ltb}
+use lib.Dec.{eqb, leb}
 use lib.ListN.{length, getD, take}
 use lib.Seq.{length-take-le, getD-take}
-use Rattle.num.proofs.Tests.{and-false, or-false, cond-zero}
+use Rattle.num.proofs.Tests.{and-false}
 use Rattle.layout.specs.Value.{goodValue}
 use Rattle.sequencer.specs.declared.Sequencer.{Sequencer}
 use Rattle.client.specs.declared.Client.{Client}
@@ -22,29 +22,14 @@ use Rattle.unit.specs.declared.shape.Shape.{Shape}
 use Rattle.rule.specs.World.{shapeUnder, blankLetter}
 use Rattle.yard.specs.Bag.{takeAt}
 use Rattle.rule.specs.Steps.{Done, step, keeping}
-use Rattle.rule.specs.Lent.{Lent, fetched, goodClients, goodUnits, testNumber, lentNumber, seen, left, done, unlent, steps}
-use Rattle.yard.specs.Parts.{worldOf}
-use Rattle.yard.specs.Moves.{posting, countAfter, refusing, Decided}
-use Rattle.yard.specs.Settled.{placeOf, settling, Settles, Decides}
+use Rattle.rule.specs.Lent.{Lent, fetched, goodClients, testNumber, lentNumber, seen, left, done, unlent, steps}
+use Rattle.yard.specs.InsideParts.{worldOf}
+use Rattle.yard.specs.InsideMoves.{posting, countAfter, refusing, Decided}
+use Rattle.yard.specs.InsideSettled.{letterPlace, settling, Settles, Decides}
 use Rattle.rule.proofs.Shaping.{step-shape}
+use Rattle.rule.proofs.Testing.{test-says}
 use Rattle.yard.proofs.Delivering.{after-length}
 use Rattle.yard.proofs.Laying.{set-past, laid-is}
-
--- ---- what the tests say
-
-pub record Tested (y : Yard) (places : ℕ) (m : List ℕ) : Type 0 where
-  pub memories : goodUnits (y .held .shape) 1 8 m ≡ true
-  pub long : places ≡ 32
-  pub few : y .count ≤ 32
-
-pub tested : (y : Yard) (places : ℕ) (m : List ℕ) → testNumber y places m ≡ 0 → Tested y places m
-unfolding testNumber
-tested y places m z =
-    let (a, u) = cond-zero (not (goodUnits (y .held .shape) 1 8 m)) 1 _ (omega arith) z in
-    let (b, v) = cond-zero (not (goodValue (y .held) && goodClients (y .clients))) 10 _ (omega arith) u in
-    let (d, w) = cond-zero (not (eqb places 32) || ltb 32 (y .count)) 16 0 (omega arith) v in
-    let (e, f) = or-false (not (eqb places 32)) (ltb 32 (y .count)) d in
-    record { memories = not-false (goodUnits (y .held .shape) 1 8 m) a; long = eqb-true places 32 (not-false (eqb places 32) e); few = ltb-false 32 (y .count) f }
 
 -- the four clients
 abbrev good-client : Client → Bool
@@ -93,13 +78,13 @@ module _ (y : Yard) (q : Sequencer) (table : List Letter) (m : List ℕ) (s : St
       }
 
   -- DECIDED
-  pub settles-decided : {l : Letter} {mv : Moves} {after : List ℕ} → testNumber y (length table) m ≡ 0 → takeAt table (placeOf s) ≡ l
-      → Decided (shapeUnder (y .held)) l (λ ls. step (worldOf y q ls m) s j) (y .count) (placeOf s) mv after → Settles lent s j (settling mv (length table) (placeOf s)) after
+  pub settles-decided : {l : Letter} {mv : Moves} {after : List ℕ} → testNumber y (length table) m ≡ 0 → takeAt table (letterPlace s) ≡ l
+      → Decided (shapeUnder (y .held)) l (λ ls. step (worldOf y q ls m) s j) (y .count) (letterPlace s) mv after → Settles lent s j (settling mv (length table) (letterPlace s)) after
   unfolding steps done left seen lentNumber testNumber
   settles-decided {l} {mv} {after} z taken d =
-      let t = tested y (length table) m z in
+      let t = test-says y (length table) m z in
       let n : ℕ = y .count in
-      let i : ℕ = placeOf s in
+      let i : ℕ = letterPlace s in
       let ls : List Letter = take n table in
       let len : length ls ≡ n = length-take-le n table (omega (arith, t .long, t .few)) in
       let e = d .done-is ls len (λ h. getD-take n table i blankLetter h ∙ taken) in
@@ -119,8 +104,8 @@ module _ (y : Yard) (q : Sequencer) (places : ℕ) (l : Letter) (m : List ℕ) (
   pub decides-unlent : (k : ℕ) → testNumber y places m ≡ k → (k ≡ 0 → ⊥) → Decides y q places l m s j (settling (refusing y q k) places 0) m
   decides-unlent k e z = record { settles = λ table p t. rw (← p) (settles-unlent y q table m s j k (rw p e) z) }
 
-  pub decides-decided : {mv : Moves} {after : List ℕ} → testNumber y places m ≡ 0 → Decided (shapeUnder (y .held)) l (λ ls. step (worldOf y q ls m) s j) (y .count) (placeOf s) mv after
-      → Decides y q places l m s j (settling mv places (placeOf s)) after
+  pub decides-decided : {mv : Moves} {after : List ℕ} → testNumber y places m ≡ 0 → Decided (shapeUnder (y .held)) l (λ ls. step (worldOf y q ls m) s j) (y .count) (letterPlace s) mv after
+      → Decides y q places l m s j (settling mv places (letterPlace s)) after
   decides-decided z d = record { settles = λ table p t. rw (← p) (settles-decided y q table m s j (rw p z) t d) }
 
 -- the count fits a byte

@@ -20,14 +20,14 @@ use Rattle.client.specs.declared.Act.{Act}
 use Rattle.client.specs.declared.Act.the-variants.{Rests, Sends, Ends}
 use Rattle.client.specs.declared.turn.Turn.{Turn}
 use Rattle.client.specs.Client.{fresh, lastNumber, busy}
-use Rattle.client.specs.Turn.{rests, over, ends}
 use Rattle.client.specs.Job.{jobChecks}
 use Rattle.client.specs.Begin.{readyChecks, readyAnswer, beginTurn, giveUp, restartAnswer, restarted}
+use Rattle.client.proofs.Turns.{give-up-cases}
 use Rattle.rule.specs.declared.Letter.{Letter}
 use Rattle.rule.specs.declared.Yard.{Yard}
 use Rattle.rule.specs.World.{isClient, running}
 use Rattle.rule.specs.Steps.{Done, refused, fine, keeping, without, posted, turned, beginNumber, begins, drops, stops, restartNumber, restarts, givesUp, forgets}
-use Rattle.yard.specs.Moves.{worldWith, posting, doneOf, Moved, quiet, refusing, withClientIn, withStoppedIn, sends, letterOf, turning}
+use Rattle.yard.specs.InsideMoves.{worldWith, posting, doneOf, Moved, quiet, refusing, withClientIn, withStoppedIn, sends, letterOf, turning}
 
 -- a step that no operation ends with, and that leaves the letters
 pub moved-quiet : {rule : List Letter → List State → Done} {n i : ℕ} (y : Yard) (s : Sequencer) (k : ℕ) → y .count ≡ n
@@ -59,7 +59,6 @@ ready-then false true rest = refl
 ready-then false false rest = refl
 
 pub ready-first : (c : Client) (rest : List Check) → lowest (readyChecks c ++ rest) ≡ cond (not (eqb (readyAnswer c) 0)) (readyAnswer c) (lowest rest)
-unfolding readyAnswer
 ready-first c rest = ready-then (busy (c .stage)) (leb lastNumber (c .used .0)) rest
 
 module _ (y : Yard) (s : Sequencer) (c : ℕ) where
@@ -120,12 +119,7 @@ module _ (y : Yard) (s : Sequencer) (c : ℕ) where
 
     -- one who gives up sends nothing
     silent : (x : Client) → sends (giveUp x .act) ≡ false
-    unfolding giveUp ends over rests
-    silent x = go (busy (x .stage))
-      where
-        go : (b : Bool) → sends ((cond b (ends x 20) (rests x)) .act) ≡ false
-        go true = refl
-        go false = refl
+    silent x = give-up-cases (λ t. sends (t .act) ≡ false) x (λ working. refl) (λ resting. refl)
 
     pub gives-up-turned : Moved (λ ls us. givesUp (worldWith y s ls us) c) (y .count) 0 (turning y s true c (giveUp known))
     unfolding givesUp

@@ -1,5 +1,5 @@
 pub mod Bag
-pub mod Moves
-pub mod Parts
-pub mod Settled
-pub mod Prepared
+pub mod InsideMoves
+pub mod InsideParts
+pub mod InsideSettled
+pub mod InsidePrepared

@@ -6,9 +6,9 @@ ghost use Rattle.layout.specs.Value.{goodValue};
 ghost use Rattle.rule.specs.World.{shapeUnder};
 ghost use Rattle.rule.specs.Lent.{fetched, goodClients, goodUnits, testNumber};
 ghost use Rattle.rule.specs.Steps.{step};
-ghost use Rattle.yard.specs.Parts.{worldOf};
-ghost use Rattle.yard.specs.Moves.{countAfter, refusing, Decided};
-ghost use Rattle.yard.specs.Settled.{placeOf, settling, Decides};
+ghost use Rattle.yard.specs.InsideParts.{worldOf};
+ghost use Rattle.yard.specs.InsideMoves.{countAfter, refusing, Decided};
+ghost use Rattle.yard.specs.InsideSettled.{letterPlace, settling, Decides};
 use crate::deliver::delivers;
 use crate::moves::Moves;
 use crate::moves::count_after;
@@ -52,16 +52,7 @@ fn has_fetched(stage: Stage) -> bool
     match stage {
         Stage::Idle => false,
         Stage::Fetching => false,
-        Stage::Drawing(_) => true,
-        Stage::Writing(_, _) => true,
-        Stage::Reading(_) => true,
-        Stage::Filling(_) => true,
-        Stage::Looking(_) => true,
-        Stage::Trimming(_) => true,
-        Stage::Pruning(_) => true,
-        Stage::Sealing(_, _) => true,
-        Stage::Offering(_) => true,
-        Stage::Starting => true,
+        Stage::Working(_) => true,
     }
 }
 
@@ -105,7 +96,7 @@ fn test_number(yard: Yard, places: usize, units: &[u8]) -> u8
 
 // The place of the letter that a step is about.
 pub(crate) fn place_of(s: Step) -> usize
-    ensures { λ r. ⌜ r ≡ placeOf s ⌝ }
+    ensures { λ r. ⌜ r ≡ letterPlace s ⌝ }
 {
     match s {
         Step::Begin(_) => 0,
@@ -121,7 +112,7 @@ pub(crate) fn place_of(s: Step) -> usize
 // The moves of a step over good memories; `l` is the letter at its place.
 fn chosen(yard: Yard, seq: Sequencer, l: Letter, units: &mut [u8], s: Step, job: Job) -> Moves
     requires { ⌜ goodUnits (yard .held .shape) 1 8 (now units) ≡ true ⌝ }
-    ensures { λ r. ⌜ Decided (shapeUnder (yard .held)) l (λ ls. step (worldOf yard seq ls (now (units .entry))) s job) (yard .count) (placeOf s) r (now (units .exit)) ⌝ }
+    ensures { λ r. ⌜ Decided (shapeUnder (yard .held)) l (λ ls. step (worldOf yard seq ls (now (units .entry))) s job) (yard .count) (letterPlace s) r (now (units .exit)) ⌝ }
 {
     match s {
         Step::Begin(c) => begins(yard, seq, c, job),

@@ -6,8 +6,8 @@ ghost use Rattle.rule.specs.World.{shapeUnder};
 ghost use Rattle.rule.specs.Lent.{goodUnits};
 ghost use Rattle.rule.specs.Serve.{unserved};
 ghost use Rattle.rule.specs.Steps.{delivered, delivers};
-ghost use Rattle.yard.specs.Parts.{worldOf};
-ghost use Rattle.yard.specs.Moves.{worldWith, Moved, Decided, answering};
+ghost use Rattle.yard.specs.InsideParts.{worldOf};
+ghost use Rattle.yard.specs.InsideMoves.{worldWith, Moved, Decided, answering};
 use crate::machine::Service;
 use crate::machine::serve;
 use crate::moves::Moves;
@@ -37,11 +37,7 @@ fn is_unserved(stopped: [bool; 8], ask: Ask) -> bool
     match ask {
         Ask::Fetch => false,
         Ask::Token(_) => false,
-        Ask::Write(u, _, _) => !is_running(stopped, u),
-        Ask::Read(u, _, _) => !is_running(stopped, u),
-        Ask::Trim(u, _, _) => !is_running(stopped, u),
-        Ask::Prune(u, _, _) => !is_running(stopped, u),
-        Ask::Seal(u, _) => !is_running(stopped, u),
+        Ask::Unit(u, _) => !is_running(stopped, u),
         Ask::Offer => false,
         Ask::Start(_, _) => false,
     }

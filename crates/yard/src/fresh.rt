@@ -6,7 +6,7 @@ ghost use Rattle.layout.specs.Lay.{lastShape};
 ghost use Rattle.unit.specs.Shape.{shapeFor};
 ghost use Rattle.rule.specs.Lent.{unitsBytes};
 ghost use Rattle.rule.specs.Fresh.{freshUnits, freshYard, freshNumberOf, IsMade};
-ghost use Rattle.yard.specs.Prepared.{IsPrepared};
+ghost use Rattle.yard.specs.InsidePrepared.{IsPrepared};
 use crate::bag::clear;
 use client::Client;
 use layout::Layout;

@@ -7,7 +7,7 @@ ghost use Rattle.sequencer.specs.Rules.{told, after};
 ghost use Rattle.rule.specs.World.{shapeUnder};
 ghost use Rattle.rule.specs.Lent.{goodUnits};
 ghost use Rattle.rule.specs.Serve.{saying, bare, telling, fetching, unserved, serve};
-ghost use Rattle.yard.specs.Parts.{worldOf, IsServed};
+ghost use Rattle.yard.specs.InsideParts.{worldOf, IsServed};
 use crate::unit_request::bare;
 use crate::unit_request::saying;
 use crate::units::at_unit;
@@ -111,11 +111,7 @@ pub(crate) fn serve(
     match ask {
         Ask::Fetch => beside(yard, seq, fetching(fetch(held))),
         Ask::Token(epoch) => asking(held, seq, Asked::Token(epoch)),
-        Ask::Write(u, _, _) => beside(yard, seq, at_unit(units, u, ask, page)),
-        Ask::Read(u, _, _) => beside(yard, seq, at_unit(units, u, ask, page)),
-        Ask::Trim(u, _, _) => beside(yard, seq, at_unit(units, u, ask, page)),
-        Ask::Prune(u, _, _) => beside(yard, seq, at_unit(units, u, ask, page)),
-        Ask::Seal(u, _) => beside(yard, seq, at_unit(units, u, ask, page)),
+        Ask::Unit(u, asked) => beside(yard, seq, at_unit(units, u, asked, page)),
         Ask::Offer => offering(held, seq, layout),
         Ask::Start(epoch, p) => asking(held, seq, Asked::Start(epoch, p)),
     }

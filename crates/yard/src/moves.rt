@@ -6,7 +6,7 @@ ghost use lib.ListN.{getD};
 ghost use Rattle.client.specs.Client.{fresh};
 ghost use Rattle.rule.specs.World.{isClient};
 ghost use Rattle.rule.specs.Steps.{ended};
-ghost use Rattle.yard.specs.Moves.{quiet, refusing, withClientIn, sends, letterOf, turning, countAfter};
+ghost use Rattle.yard.specs.InsideMoves.{quiet, refusing, withClientIn, sends, letterOf, turning, countAfter};
 use client::Act;
 use client::Client;
 use client::Outcome;

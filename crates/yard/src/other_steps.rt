@@ -8,7 +8,7 @@ ghost use Rattle.client.specs.Begin.{readyChecks};
 ghost use Rattle.client.specs.Job.{jobChecks};
 ghost use Rattle.rule.specs.World.{running};
 ghost use Rattle.rule.specs.Steps.{begins, drops, stops, restarts, givesUp, forgets};
-ghost use Rattle.yard.specs.Moves.{worldWith, withStoppedIn, Moved};
+ghost use Rattle.yard.specs.InsideMoves.{worldWith, withStoppedIn, Moved};
 use crate::moves::Moves;
 use crate::moves::client_of;
 use crate::moves::is_client;

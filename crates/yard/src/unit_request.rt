@@ -7,13 +7,14 @@ ghost use Rattle.layout.specs.Value.{padded};
 ghost use Rattle.unit.specs.Shape.{shapeOf};
 ghost use Rattle.client.specs.Message.{pageLimit};
 ghost use Rattle.unit.specs.Memory.{good as goodMemory};
-ghost use Rattle.unit.specs.Unit.{writeSays, writeUnit, trimSays, trimUnit, pruneSays, pruneUnit, sealUnit};
-ghost use Rattle.rule.specs.Serve.{saying, bare, kindOf, bytesOf, shown, edgeOr, edged};
-ghost use Rattle.yard.specs.Parts.{heldIn, OnUnit, unitSays, unitAfter};
-use client::Ask;
+ghost use Rattle.unit.specs.State.{content};
+ghost use Rattle.unit.specs.Unit.{Request, says, after};
+ghost use Rattle.rule.specs.Serve.{saying, bare, kindOf, bytesOf, shown, edgeOr, edged, unitSays, unitAfter};
+ghost use Rattle.yard.specs.InsideParts.{heldIn, OnUnit};
 use client::Page;
 use client::Reply;
 use client::Response;
+use client::UnitAsk;
 use layout::Layout;
 use num::Epoch;
 use num::Position;
@@ -85,8 +86,8 @@ fn padded_to(bytes: &[u8]) -> [u8; Page::ROOM]
 fn write_on(mem: &mut [u8], epoch: Epoch, p: Position, page: Page) -> Response
     requires { ⌜ goodMemory (shapeOf (now mem)) (now mem) ≡ true ⌝ }
     ensures { λ r. ⌜ OnUnit (shapeOf (now (mem .entry)))
-        (bare (saying (writeSays (shapeOf (now (mem .entry))) (heldIn (now (mem .entry))) (epoch .0) (p .0) (kindOf page) (bytesOf page))))
-        (writeUnit (shapeOf (now (mem .entry))) (heldIn (now (mem .entry))) (epoch .0) (p .0) (kindOf page) (bytesOf page)) r (now (mem .exit)) ⌝ }
+        (bare (saying (says (shapeOf (now (mem .entry))) (heldIn (now (mem .entry))) (Request.write epoch p (content (kindOf page) (bytesOf page))))))
+        (after (shapeOf (now (mem .entry))) (heldIn (now (mem .entry))) (Request.write epoch p (content (kindOf page) (bytesOf page)))) r (now (mem .exit)) ⌝ }
 {
     let bytes = page.bytes;
     let kind = kind_of(page);
@@ -98,8 +99,8 @@ fn write_on(mem: &mut [u8], epoch: Epoch, p: Position, page: Page) -> Response
 fn trim_on(mem: &mut [u8], epoch: Epoch, p: Position) -> Response
     requires { ⌜ goodMemory (shapeOf (now mem)) (now mem) ≡ true ⌝ }
     ensures { λ r. ⌜ OnUnit (shapeOf (now (mem .entry)))
-        (bare (saying (trimSays (shapeOf (now (mem .entry))) (heldIn (now (mem .entry))) (epoch .0) (p .0))))
-        (trimUnit (shapeOf (now (mem .entry))) (heldIn (now (mem .entry))) (epoch .0) (p .0)) r (now (mem .exit)) ⌝ }
+        (bare (saying (says (shapeOf (now (mem .entry))) (heldIn (now (mem .entry))) (Request.trim epoch p))))
+        (after (shapeOf (now (mem .entry))) (heldIn (now (mem .entry))) (Request.trim epoch p)) r (now (mem .exit)) ⌝ }
 {
     let number = trim(mem, epoch, p);
     bare(saying(number))
@@ -108,8 +109,8 @@ fn trim_on(mem: &mut [u8], epoch: Epoch, p: Position) -> Response
 fn prune_on(mem: &mut [u8], epoch: Epoch, p: Position) -> Response
     requires { ⌜ goodMemory (shapeOf (now mem)) (now mem) ≡ true ⌝ }
     ensures { λ r. ⌜ OnUnit (shapeOf (now (mem .entry)))
-        (bare (saying (pruneSays (heldIn (now (mem .entry))) (epoch .0) (p .0))))
-        (pruneUnit (heldIn (now (mem .entry))) (epoch .0) (p .0)) r (now (mem .exit)) ⌝ }
+        (bare (saying (says (shapeOf (now (mem .entry))) (heldIn (now (mem .entry))) (Request.prune epoch p))))
+        (after (shapeOf (now (mem .entry))) (heldIn (now (mem .entry))) (Request.prune epoch p)) r (now (mem .exit)) ⌝ }
 {
     let number = prune(mem, epoch, p);
     bare(saying(number))
@@ -129,8 +130,8 @@ fn edge_or(answer: u8, edge: u64) -> Reply
 fn seal_on(mem: &mut [u8], epoch: Epoch) -> Response
     requires { ⌜ goodMemory (shapeOf (now mem)) (now mem) ≡ true ⌝ }
     ensures { λ r. ⌜ OnUnit (shapeOf (now (mem .entry)))
-        (bare (edged (heldIn (now (mem .entry))) (epoch .0)))
-        (sealUnit (heldIn (now (mem .entry))) (epoch .0)) r (now (mem .exit)) ⌝ }
+        (bare (edged (shapeOf (now (mem .entry))) (heldIn (now (mem .entry))) epoch))
+        (after (shapeOf (now (mem .entry))) (heldIn (now (mem .entry))) (Request.seal epoch)) r (now (mem .exit)) ⌝ }
 {
     let sealed = seal(mem, epoch);
     bare(edge_or(sealed.answer, sealed.edge))
@@ -139,7 +140,7 @@ fn seal_on(mem: &mut [u8], epoch: Epoch) -> Response
 // The page of a position, or a refusal.
 fn read_on(mem: &[u8], epoch: Epoch, p: Position) -> Response
     requires { ⌜ goodMemory (shapeOf (now mem)) (now mem) ≡ true ⌝ }
-    ensures { λ r. ⌜ r ≡ shown (heldIn (now (mem .entry))) (epoch .0) (p .0) ⌝ }
+    ensures { λ r. ⌜ r ≡ shown (shapeOf (now (mem .entry))) (heldIn (now (mem .entry))) epoch p ⌝ }
 {
     let seen = read(mem, epoch, p);
     if seen.answer != 0 {
@@ -161,21 +162,17 @@ fn read_on(mem: &[u8], epoch: Epoch, p: Position) -> Response
 }
 
 // Whatever a unit is asked.
-pub(crate) fn ask_unit(mem: &mut [u8], ask: Ask, page: Page) -> Response
+pub(crate) fn ask_unit(mem: &mut [u8], ask: UnitAsk, page: Page) -> Response
     requires { ⌜ goodMemory (shapeOf (now mem)) (now mem) ≡ true ⌝ }
     ensures { λ r. ⌜ OnUnit (shapeOf (now (mem .entry)))
         (unitSays (shapeOf (now (mem .entry))) (heldIn (now (mem .entry))) ask page)
         (unitAfter (shapeOf (now (mem .entry))) (heldIn (now (mem .entry))) ask page) r (now (mem .exit)) ⌝ }
 {
     match ask {
-        Ask::Write(_, epoch, p) => write_on(mem, epoch, p, page),
-        Ask::Read(_, epoch, p) => read_on(mem, epoch, p),
-        Ask::Trim(_, epoch, p) => trim_on(mem, epoch, p),
-        Ask::Prune(_, epoch, p) => prune_on(mem, epoch, p),
-        Ask::Seal(_, epoch) => seal_on(mem, epoch),
-        Ask::Fetch => Response::blank(),
-        Ask::Token(_) => Response::blank(),
-        Ask::Offer => Response::blank(),
-        Ask::Start(_, _) => Response::blank(),
+        UnitAsk::Write(epoch, p) => write_on(mem, epoch, p, page),
+        UnitAsk::Read(epoch, p) => read_on(mem, epoch, p),
+        UnitAsk::Trim(epoch, p) => trim_on(mem, epoch, p),
+        UnitAsk::Prune(epoch, p) => prune_on(mem, epoch, p),
+        UnitAsk::Seal(epoch) => seal_on(mem, epoch),
     }
 }

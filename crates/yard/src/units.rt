@@ -6,11 +6,12 @@ ghost use Rattle.unit.specs.Shape.{shapeOf};
 ghost use Rattle.unit.specs.Memory.{codeOf};
 ghost use Rattle.rule.specs.World.{isUnit};
 ghost use Rattle.rule.specs.Lent.{goodUnit, goodUnits};
-ghost use Rattle.yard.specs.Parts.{unitOf, unitSays, unitAfter, AtUnit};
+ghost use Rattle.rule.specs.Serve.{unitSays, unitAfter};
+ghost use Rattle.yard.specs.InsideParts.{unitOf, AtUnit};
 use crate::unit_request::ask_unit;
-use client::Ask;
 use client::Page;
 use client::Response;
+use client::UnitAsk;
 use num::bytes::number_at;
 use num::bytes::size;
 use unit::memory::is_good;
@@ -50,7 +51,7 @@ fn start_of(u: u8) -> usize
 }
 
 // A request at the unit `u`, of the shape that the first memory names.
-pub(crate) fn at_unit(units: &mut [u8], u: u8, ask: Ask, page: Page) -> Response
+pub(crate) fn at_unit(units: &mut [u8], u: u8, ask: UnitAsk, page: Page) -> Response
     requires { ⌜ goodUnits (codeOf (now units)) 1 8 (now units) ≡ true ⌝ }
     requires { ⌜ isUnit u ≡ true ⌝ }
     ensures { λ r. ⌜ AtUnit (shapeOf (now (units .entry))) (now (units .entry)) u

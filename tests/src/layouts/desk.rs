@@ -1,6 +1,7 @@
 //! The proved library's C functions over layouts: all that is unsafe stands here.
 
-use crate::layouts::compare::{After, Call};
+use crate::fence::lent;
+use reading::layout_call::{After, Call};
 
 mod c {
     extern "C" {
@@ -53,23 +54,13 @@ pub fn plan(held: &[u8], drops: &[u8], sets: &[u8], edge: u64, out: &mut [u8], w
     }
 }
 
-/// Bytes on both sides of a lent buffer, which no call may touch.
-const FENCE: usize = 64;
-const POST: u8 = 0xA5;
-
 /// What is seen after a call, by the library.
-pub fn after(call: &Call, lent: u64, buffer: &[u8]) -> After {
-    let mut number = lent;
-    let mut yard = vec![POST; FENCE + buffer.len() + FENCE];
-    let field = FENCE..FENCE + buffer.len();
-    yard[field.clone()].copy_from_slice(buffer);
-    let answer = match call {
+pub fn after(call: &Call, mut number: u64, buffer: &[u8]) -> After {
+    let (answer, buffer) = lent(buffer, call, |out| match call {
         Call::Good { bytes } => good(bytes),
         Call::Set { bytes, position } => set(bytes, *position, &mut number),
         Call::Offer { held, offered } => offer(held, offered),
-        Call::Plan { held, drops, sets, edge } => plan(held, drops, sets, *edge, &mut yard[field.clone()], &mut number),
-    };
-    let fences = yard[..field.start].iter().chain(&yard[field.end..]);
-    assert!(fences.copied().all(|byte| byte == POST), "{call:?} wrote outside the buffer it was lent");
-    After { answer, number, buffer: yard[field].to_vec() }
+        Call::Plan { held, drops, sets, edge } => plan(held, drops, sets, *edge, out, &mut number),
+    });
+    After { answer, number, buffer }
 }

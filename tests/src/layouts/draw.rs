@@ -1,9 +1,14 @@
 //! Random layouts up to the limits, byte strings near good ones, offers near lawful ones, and plans good and bad.
 
-use crate::layouts::bytes::{print, print_sets, print_with};
-use crate::layouts::compare::Call;
-use crate::layouts::layout::{Layout, Range, Set, BYTES, POSITIONS, RANGES, SETS, SET_UNITS, SHAPES, UNITS};
 use crate::random::Random;
+use reading::layout::{Layout, Range, Set, RANGES, SETS, SET_UNITS, UNITS};
+use reading::layout_bytes::{encode, encode_sets, encode_with, unit_section, BYTES};
+use reading::layout_call::Call;
+use reading::no::LIMIT;
+use reading::shape::Shape;
+
+/// How many shapes a layout may name, which is also the first byte that names none.
+const SHAPES: u8 = Shape::ALL.len() as u8;
 
 pub fn set(random: &mut Random) -> Set {
     let size = random.below(SET_UNITS as u64) + 1;
@@ -19,10 +24,10 @@ fn start_above(random: &mut Random, last: u64) -> Option<u64> {
     let above = match random.below(4) {
         0 => last + 1,
         1 => last + 1 + random.below(20),
-        2 => last + 1 + random.below(POSITIONS),
-        _ => POSITIONS - 1 - random.below(10),
+        2 => last + 1 + random.below(LIMIT),
+        _ => LIMIT - 1 - random.below(10),
     };
-    (last < above && above < POSITIONS).then_some(above)
+    (last < above && above < LIMIT).then_some(above)
 }
 
 /// A good layout; one in some is as large as can be.
@@ -85,7 +90,7 @@ pub fn bend(random: &mut Random, layout: &mut Layout) {
         7 => drop(layout.sets.remove(which)),
         8 => layout.sets.insert(which, set(random)),
         9 => layout.ranges[range].uses = layout.ranges[range].uses.wrapping_add(random.one_of(&[1, 255])),
-        10 => layout.ranges[range].start = random.one_of(&[0, 1, 10, POSITIONS - 1, POSITIONS, layout.last_start()]),
+        10 => layout.ranges[range].start = random.one_of(&[0, 1, 10, LIMIT - 1, LIMIT, layout.last_start()]),
         11 => layout.ranges[range].start = layout.ranges[range].start.wrapping_add(random.one_of(&[1, u64::MAX])),
         12 => layout.ranges.push(Range { start: layout.last_start() + random.below(2), uses: 1 }),
         13 => {
@@ -105,13 +110,13 @@ pub fn near(random: &mut Random) -> Vec<u8> {
                 bend(random, &mut layout);
             }
         }
-        let mut units: Vec<u8> = layout.units().into_iter().collect();
+        let mut units = unit_section(&layout);
         if random.chance(100) {
             units.push(random.below(10) as u8);
         }
-        return print_with(&layout, &units);
+        return encode_with(&layout, &units);
     }
-    let mut bytes = print(&layout);
+    let mut bytes = encode(&layout);
     for _ in 0..random.below(3) {
         scratch(random, &mut bytes);
     }
@@ -145,11 +150,11 @@ pub fn offer(random: &mut Random) -> Call {
     if random.chance(600) {
         bend(random, &mut new);
     }
-    let mut offered = print(&new);
+    let mut offered = encode(&new);
     if random.chance(50) {
         scratch(random, &mut offered);
     }
-    let held = if random.chance(50) { near(random) } else { print(&held) };
+    let held = if random.chance(50) { near(random) } else { encode(&held) };
     Call::Offer { held, offered }
 }
 
@@ -162,7 +167,7 @@ fn new_sets(random: &mut Random) -> Vec<u8> {
         4 => 0,
         _ => 1 + random.below(4),
     };
-    let mut bytes = print_sets(&(0..count).map(|_| set(random)).collect::<Vec<_>>());
+    let mut bytes = encode_sets(&(0..count).map(|_| set(random)).collect::<Vec<_>>());
     if random.chance(100) {
         scratch(random, &mut bytes);
     }
@@ -172,13 +177,15 @@ fn new_sets(random: &mut Random) -> Vec<u8> {
 /// Units to drop: often few, so that no set is lost; now and then no units at all, or one that a late new set may name.
 fn drops(random: &mut Random) -> Vec<u8> {
     let count = random.one_of(&[0, 0, 1, 1, 1, 2, 3, 9, 300]);
-    (0..count).map(|_| if random.chance(30) { random.one_of(&[0, 9, 255]) } else { random.below(8) as u8 + 1 }).collect()
+    (0..count)
+        .map(|_| if random.chance(30) { random.one_of(&[0, 9, 255]) } else { random.below(8) as u8 + 1 })
+        .collect()
 }
 
 /// A reorganise of a layout, and the room for what comes of it.
 pub fn plan(random: &mut Random) -> (Call, usize) {
-    let held = if random.chance(50) { near(random) } else { print(&layout(random)) };
-    let near_end = POSITIONS - 3 + random.below(6);
+    let held = if random.chance(50) { near(random) } else { encode(&layout(random)) };
+    let near_end = LIMIT - 3 + random.below(6);
     let far = random.next();
     let low = random.below(100);
     let edge = random.one_of(&[0, low, low, near_end, far, u64::MAX]);

@@ -12,7 +12,7 @@ same-length c = search needs
 returns : tie.Need-returns
 returns c =
     let r = c .before .before .before .seal .ensures in
-    record { answer-is = r .answer-is; edge-is = told-new _ (r .answer-is) (c .if1 .taken) (r .edge-is); memory-is = r .memory-is }
+    record { answered = r .answered; edge-is = told-new _ (r .answered .answer-is) (c .if1 .taken) (r .edge-is) }
 
 same-length-2 : tie.Need-same-length-2
 same-length-2 c = search needs
@@ -20,7 +20,7 @@ same-length-2 c = search needs
 returns-2 : tie.Need-returns-2
 returns-2 c =
     let r = c .before .before .before .seal .ensures in
-    record { answer-is = r .answer-is; edge-is = told-held _ _ (r .answer-is) (c .if1 .left); memory-is = r .memory-is }
+    record { answered = r .answered; edge-is = told-held _ _ (r .answered .answer-is) (c .if1 .left) }
 
 pub unit-seal-spec : {M : Type 1} → statement M
 unit-seal-spec = tie.close (tie.spec seal-requires same-length returns same-length-2 returns-2)

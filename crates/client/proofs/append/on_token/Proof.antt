@@ -1,6 +1,5 @@
 -- `client::append::on_token` meets its contract.
 use borrow.Author.Needs.{needs}
-use Rattle.client.specs.Append.{onToken}
 use Rattle.client.proofs.Answers.{not-given}
 use Rattle.client.proofs.append.on_token.Statement.{statement}
 use Rattle.client.proofs.append.on_token.Tie as tie
@@ -15,14 +14,12 @@ otherwise-requires : tie.Need-otherwise-requires
 otherwise-requires c κs = search needs
 
 returns : tie.Need-returns
-unfolding onToken
 returns c = rw (c .otherwise .ensures, c .before .number-of .ensures, not-given _ (c .before .before .match .keys2))
 
 writes-at-requires : tie.Need-writes-at-requires
 writes-at-requires c κs = search needs
 
 returns-2 : tie.Need-returns-2
-unfolding onToken
 returns-2 c = rw (c .writes-at .ensures, c .before .before .reply .given .1)
 
 pub on-token-spec : {M : Type 1} → statement M

@@ -1,6 +1,5 @@
 -- `client::append::on_written` meets its contract.
 use borrow.Author.Needs.{needs}
-use Rattle.client.specs.Append.{onWritten}
 use Rattle.client.proofs.Answers.{not-fine}
 use Rattle.client.proofs.append.on_written.Statement.{statement}
 use Rattle.client.proofs.append.on_written.Tie as tie
@@ -15,14 +14,12 @@ not-written-requires : tie.Need-not-written-requires
 not-written-requires c κs = search needs
 
 returns : tie.Need-returns
-unfolding onWritten
 returns c = rw (c .not-written .ensures, c .before .number-of .ensures, not-fine _ (c .before .before .match .keys2))
 
 writes-on-requires : tie.Need-writes-on-requires
 writes-on-requires c κs = search needs
 
 returns-2 : tie.Need-returns-2
-unfolding onWritten
 returns-2 c = rw (c .writes-on .ensures, c .before .enum-told .given .1)
 
 pub on-written-spec : {M : Type 1} → statement M

@@ -1,7 +1,5 @@
 -- `client::begin::begin_answer` meets its contract.
 use borrow.Author.Needs.{needs}
-use Rattle.client.specs.Job.{jobAnswer}
-use Rattle.client.specs.Begin.{beginAnswer}
 use Rattle.client.proofs.begin.begin_answer.Statement.{statement}
 use Rattle.client.proofs.begin.begin_answer.Tie as tie
 
@@ -18,7 +16,6 @@ pick-requires-2 : tie.Need-pick-requires-2
 pick-requires-2 c κs = search needs
 
 returns : tie.Need-returns
-unfolding jobAnswer beginAnswer
 returns c = rw (c .pick2 .ensures, c .before .pick .ensures, c .before .before .before .job-answer .ensures, c .before .before .before .before .is-busy .ensures)
 
 pub begin-answer-spec : {M : Type 1} → statement M

@@ -1,6 +1,5 @@
 -- `client::begin::ready_answer` meets its contract.
 use borrow.Author.Needs.{needs}
-use Rattle.client.specs.Begin.{readyAnswer}
 use Rattle.client.proofs.begin.ready_answer.Statement.{statement}
 use Rattle.client.proofs.begin.ready_answer.Tie as tie
 
@@ -14,7 +13,6 @@ pick-requires-2 : tie.Need-pick-requires-2
 pick-requires-2 c κs = search needs
 
 returns : tie.Need-returns
-unfolding readyAnswer
 returns c = rw (c .pick2 .ensures, c .before .pick .ensures, c .before .before .before .is-busy .ensures)
 
 pub ready-answer-spec : {M : Type 1} → statement M

@@ -1,12 +1,12 @@
 -- `client::begin::restart` meets its contract.
 use borrow.Author.Tests.{le-leb, lt-leb}
 use borrow.Author.Needs.{needs}
-use Rattle.client.specs.Begin.{restartAnswer, restarted}
+use Rattle.client.specs.Begin.{restarted}
 use Rattle.client.proofs.begin.restart.Statement.{statement}
 use Rattle.client.proofs.begin.restart.Tie as tie
 
 returns : tie.Need-returns
-unfolding restartAnswer restarted
+unfolding restarted
 returns c = rw (le-leb _ _ (c .if1 .taken))
 
 add-idle : tie.Need-add-idle
@@ -16,7 +16,7 @@ idle-requires : tie.Need-idle-requires
 idle-requires c κs = search needs
 
 returns-2 : tie.Need-returns-2
-unfolding restartAnswer restarted
+unfolding restarted
 returns-2 c = rw (c .idle .ensures, lt-leb _ _ (c .before .before .if1 .left))
 
 pub restart-spec : {M : Type 1} → statement M

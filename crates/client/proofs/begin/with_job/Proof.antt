@@ -1,6 +1,5 @@
 -- `client::begin::with_job` meets its contract.
 use borrow.Author.Needs.{needs}
-use Rattle.client.specs.Begin.{withJob}
 use Rattle.client.proofs.begin.with_job.Statement.{statement}
 use Rattle.client.proofs.begin.with_job.Tie as tie
 
@@ -17,7 +16,6 @@ blank-requires : tie.Need-blank-requires
 blank-requires c κs = search needs
 
 returns : tie.Need-returns
-unfolding withJob
 returns c = rw (c .blank .ensures, c .before .page-for .ensures, c .before .before .position-for .ensures, c .before .before .before .change-for .ensures)
 
 pub with-job-spec : {M : Type 1} → statement M

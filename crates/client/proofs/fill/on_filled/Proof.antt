@@ -1,6 +1,5 @@
 -- `client::fill::on_filled` meets its contract.
 use borrow.Author.Needs.{needs}
-use Rattle.client.specs.Fill.{onFilled}
 use Rattle.client.proofs.Answers.{not-fine}
 use Rattle.client.proofs.fill.on_filled.Statement.{statement}
 use Rattle.client.proofs.fill.on_filled.Tie as tie
@@ -15,14 +14,12 @@ not-filled-requires : tie.Need-not-filled-requires
 not-filled-requires c κs = search needs
 
 returns : tie.Need-returns
-unfolding onFilled
 returns c = rw (c .not-filled .ensures, c .before .number-of .ensures, not-fine _ (c .before .before .match .keys2))
 
 fills-on-requires : tie.Need-fills-on-requires
 fills-on-requires c κs = search needs
 
 returns-2 : tie.Need-returns-2
-unfolding onFilled
 returns-2 c = rw (c .fills-on .ensures, c .before .enum-told .given .1)
 
 pub on-filled-spec : {M : Type 1} → statement M

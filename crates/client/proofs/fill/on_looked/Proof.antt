@@ -1,6 +1,5 @@
 -- `client::fill::on_looked` meets its contract.
 use borrow.Author.Needs.{needs}
-use Rattle.client.specs.Fill.{onLooked}
 use Rattle.client.proofs.Answers.{not-shown}
 use Rattle.client.proofs.fill.on_looked.Statement.{statement}
 use Rattle.client.proofs.fill.on_looked.Tie as tie
@@ -15,7 +14,6 @@ otherwise-requires : tie.Need-otherwise-requires
 otherwise-requires c κs = search needs
 
 returns : tie.Need-returns
-unfolding onLooked
 returns c = rw (c .otherwise .ensures, c .before .number-of .ensures, not-shown _ (c .before .before .match .keys2))
 
 carrying-requires : tie.Need-carrying-requires
@@ -25,7 +23,6 @@ fills-on-requires : tie.Need-fills-on-requires
 fills-on-requires c κs = search needs
 
 returns-2 : tie.Need-returns-2
-unfolding onLooked
 returns-2 c = rw (c .fills-on .ensures, c .before .carrying .ensures, c .before .before .enum-told .given .1)
 
 pub on-looked-spec : {M : Type 1} → statement M

@@ -1,6 +1,5 @@
 -- `client::job::job_answer` meets its contract.
 use borrow.Author.Needs.{needs}
-use Rattle.client.specs.Job.{jobAnswer}
 use Rattle.client.proofs.job.job_answer.Statement.{statement}
 use Rattle.client.proofs.job.job_answer.Tie as tie
 
@@ -17,7 +16,6 @@ pick-requires-2 : tie.Need-pick-requires-2
 pick-requires-2 c κs = search needs
 
 returns : tie.Need-returns
-unfolding jobAnswer
 returns c = rw (c .pick2 .ensures, c .before .pick .ensures, c .before .before .is-too-long .ensures, c .before .before .before .is-past .ensures)
 
 pub job-answer-spec : {M : Type 1} → statement M

@@ -1,6 +1,5 @@
 -- `client::read::on_read` meets its contract.
 use borrow.Author.Needs.{needs}
-use Rattle.client.specs.Read.{onRead}
 use Rattle.client.proofs.Answers.{not-shown}
 use Rattle.client.proofs.read.on_read.Statement.{statement}
 use Rattle.client.proofs.read.on_read.Tie as tie
@@ -15,14 +14,12 @@ otherwise-requires : tie.Need-otherwise-requires
 otherwise-requires c κs = search needs
 
 returns : tie.Need-returns
-unfolding onRead
 returns c = rw (c .otherwise .ensures, c .before .number-of .ensures, not-shown _ (c .before .before .match .keys2))
 
 over-requires : tie.Need-over-requires
 over-requires c κs = search needs
 
 returns-2 : tie.Need-returns-2
-unfolding onRead
 returns-2 c = rw (c .over .ensures, c .before .enum-told .given .1)
 
 pub on-read-spec : {M : Type 1} → statement M

@@ -1,11 +1,10 @@
 -- `client::read::reads` meets its contract.
 use borrow.Author.Needs.{needs}
-use Rattle.client.specs.Read.{reads}
 use Rattle.client.proofs.read.reads.Statement.{statement}
 use Rattle.client.proofs.read.reads.Tie as tie
 
-in-stage-requires : tie.Need-in-stage-requires
-in-stage-requires c κs = search needs
+in-phase-requires : tie.Need-in-phase-requires
+in-phase-requires c κs = search needs
 
 plain-requires : tie.Need-plain-requires
 plain-requires c κs = search needs
@@ -14,8 +13,7 @@ sends-requires : tie.Need-sends-requires
 sends-requires c κs = search needs
 
 returns : tie.Need-returns
-unfolding reads
-returns c = rw (c .sends .ensures, c .before .plain .ensures, c .before .before .in-stage .ensures)
+returns c = rw (c .sends .ensures, c .before .plain .ensures, c .before .before .in-phase .ensures)
 
 pub reads-spec : {M : Type 1} → statement M
-reads-spec = tie.close (tie.spec in-stage-requires plain-requires sends-requires returns)
+reads-spec = tie.close (tie.spec in-phase-requires plain-requires sends-requires returns)

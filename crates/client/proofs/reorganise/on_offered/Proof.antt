@@ -1,6 +1,5 @@
 -- `client::reorganise::on_offered` meets its contract.
 use borrow.Author.Needs.{needs}
-use Rattle.client.specs.Reorganise.{onOffered}
 use Rattle.client.proofs.Answers.{not-fine}
 use Rattle.client.proofs.reorganise.on_offered.Statement.{statement}
 use Rattle.client.proofs.reorganise.on_offered.Tie as tie
@@ -15,14 +14,12 @@ otherwise-requires : tie.Need-otherwise-requires
 otherwise-requires c κs = search needs
 
 returns : tie.Need-returns
-unfolding onOffered
 returns c = rw (c .otherwise .ensures, c .before .number-of .ensures, not-fine _ (c .before .before .match .keys2))
 
 starts-requires : tie.Need-starts-requires
 starts-requires c κs = search needs
 
 returns-2 : tie.Need-returns-2
-unfolding onOffered
 returns-2 c = rw (c .starts .ensures, c .before .enum-told .given .1)
 
 pub on-offered-spec : {M : Type 1} → statement M

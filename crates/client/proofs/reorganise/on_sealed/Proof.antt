@@ -1,6 +1,5 @@
 -- `client::reorganise::on_sealed` meets its contract.
 use borrow.Author.Needs.{needs}
-use Rattle.client.specs.Reorganise.{onSealed}
 use Rattle.client.proofs.Answers.{not-edge}
 use Rattle.client.proofs.reorganise.on_sealed.Statement.{statement}
 use Rattle.client.proofs.reorganise.on_sealed.Tie as tie
@@ -15,15 +14,13 @@ otherwise-requires : tie.Need-otherwise-requires
 otherwise-requires c κs = search needs
 
 returns : tie.Need-returns
-unfolding onSealed
 returns c = rw (c .otherwise .ensures, c .before .number-of .ensures, not-edge _ (c .before .before .match .keys2))
 
-sealed-at-requires : tie.Need-sealed-at-requires
-sealed-at-requires c κs = search needs
+edge-taken-requires : tie.Need-edge-taken-requires
+edge-taken-requires c κs = search needs
 
 returns-2 : tie.Need-returns-2
-unfolding onSealed
-returns-2 c = rw (c .sealed-at .ensures, c .before .before .reply .given .1)
+returns-2 c = rw (c .edge-taken .ensures, c .before .before .reply .given .1)
 
 pub on-sealed-spec : {M : Type 1} → statement M
 on-sealed-spec =
@@ -33,5 +30,5 @@ on-sealed-spec =
     number-of-requires
     otherwise-requires
     returns
-    sealed-at-requires
+    edge-taken-requires
     returns-2)

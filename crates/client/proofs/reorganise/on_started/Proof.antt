@@ -1,6 +1,5 @@
 -- `client::reorganise::on_started` meets its contract.
 use borrow.Author.Needs.{needs}
-use Rattle.client.specs.Reorganise.{onStarted}
 use Rattle.client.proofs.Answers.{not-fine}
 use Rattle.client.proofs.reorganise.on_started.Statement.{statement}
 use Rattle.client.proofs.reorganise.on_started.Tie as tie
@@ -15,14 +14,12 @@ not-started-requires : tie.Need-not-started-requires
 not-started-requires c κs = search needs
 
 returns : tie.Need-returns
-unfolding onStarted
 returns c = rw (c .not-started .ensures, c .before .number-of .ensures, not-fine _ (c .before .before .match .keys2))
 
 ends-requires : tie.Need-ends-requires
 ends-requires c κs = search needs
 
 returns-2 : tie.Need-returns-2
-unfolding onStarted
 returns-2 c = rw (c .ends .ensures, c .before .enum-told .given .1)
 
 pub on-started-spec : {M : Type 1} → statement M

@@ -1,11 +1,10 @@
 -- `client::reorganise::seals` meets its contract.
 use borrow.Author.Needs.{needs}
-use Rattle.client.specs.Reorganise.{seals}
 use Rattle.client.proofs.reorganise.seals.Statement.{statement}
 use Rattle.client.proofs.reorganise.seals.Tie as tie
 
-in-stage-requires : tie.Need-in-stage-requires
-in-stage-requires c κs = search needs
+in-phase-requires : tie.Need-in-phase-requires
+in-phase-requires c κs = search needs
 
 plain-requires : tie.Need-plain-requires
 plain-requires c κs = search needs
@@ -14,8 +13,7 @@ sends-requires : tie.Need-sends-requires
 sends-requires c κs = search needs
 
 returns : tie.Need-returns
-unfolding seals
-returns c = rw (c .sends .ensures, c .before .plain .ensures, c .before .before .in-stage .ensures)
+returns c = rw (c .sends .ensures, c .before .plain .ensures, c .before .before .in-phase .ensures)
 
 pub seals-spec : {M : Type 1} → statement M
-seals-spec = tie.close (tie.spec in-stage-requires plain-requires sends-requires returns)
+seals-spec = tie.close (tie.spec in-phase-requires plain-requires sends-requires returns)

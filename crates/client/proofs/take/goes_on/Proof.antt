@@ -1,6 +1,5 @@
 -- `client::take::goes_on` meets its contract.
 use borrow.Author.Needs.{needs}
-use Rattle.client.specs.Take.{goesOn}
 use Rattle.client.proofs.take.goes_on.Statement.{statement}
 use Rattle.client.proofs.take.goes_on.Tie as tie
 
@@ -50,27 +49,21 @@ reorganises-requires : tie.Need-reorganises-requires
 reorganises-requires c κs = search needs
 
 returns : tie.Need-returns
-unfolding goesOn
 returns c = rw (c .draws .ensures, c .before .enum-told .given .1)
 
 returns-2 : tie.Need-returns-2
-unfolding goesOn
 returns-2 c = rw (c .reads .ensures, c .before .tail-for .ensures, c .before .before .enum-told2 .given .1)
 
 returns-3 : tie.Need-returns-3
-unfolding goesOn
 returns-3 c = rw (c .fills .ensures, c .before .head-for .ensures, c .before .before .enum-told3 .given .1)
 
 returns-4 : tie.Need-returns-4
-unfolding goesOn
 returns-4 c = rw (c .trims .ensures, c .before .head-for2 .ensures, c .before .before .enum-told4 .given .1)
 
 returns-5 : tie.Need-returns-5
-unfolding goesOn
 returns-5 c = rw (c .prunes-on .ensures, c .before .enum-told5 .given .1)
 
 returns-6 : tie.Need-returns-6
-unfolding goesOn
 returns-6 c = rw (c .reorganises .ensures, c .before .enum-told6 .given .1)
 
 pub goes-on-spec : {M : Type 1} → statement M

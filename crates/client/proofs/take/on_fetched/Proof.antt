@@ -1,6 +1,5 @@
 -- `client::take::on_fetched` meets its contract.
 use borrow.Author.Needs.{needs}
-use Rattle.client.specs.Take.{onFetched}
 use Rattle.client.proofs.Answers.{not-held}
 use Rattle.client.proofs.take.on_fetched.Statement.{statement}
 use Rattle.client.proofs.take.on_fetched.Tie as tie
@@ -15,14 +14,12 @@ otherwise-requires : tie.Need-otherwise-requires
 otherwise-requires c κs = search needs
 
 returns : tie.Need-returns
-unfolding onFetched
 returns c = rw (c .otherwise .ensures, c .before .number-of .ensures, not-held _ (c .before .before .match .keys2))
 
 holds-requires : tie.Need-holds-requires
 holds-requires c κs = search needs
 
 returns-2 : tie.Need-returns-2
-unfolding onFetched
 returns-2 c = rw (c .holds .ensures, c .before .enum-told .given .1)
 
 pub on-fetched-spec : {M : Type 1} → statement M

@@ -1,6 +1,5 @@
 -- `client::trim::on_pruned` meets its contract.
 use borrow.Author.Needs.{needs}
-use Rattle.client.specs.Trim.{onPruned}
 use Rattle.client.proofs.Answers.{not-fine}
 use Rattle.client.proofs.trim.on_pruned.Statement.{statement}
 use Rattle.client.proofs.trim.on_pruned.Tie as tie
@@ -15,14 +14,12 @@ otherwise-requires : tie.Need-otherwise-requires
 otherwise-requires c κs = search needs
 
 returns : tie.Need-returns
-unfolding onPruned
 returns c = rw (c .otherwise .ensures, c .before .number-of .ensures, not-fine _ (c .before .before .match .keys2))
 
 prunes-on-requires : tie.Need-prunes-on-requires
 prunes-on-requires c κs = search needs
 
 returns-2 : tie.Need-returns-2
-unfolding onPruned
 returns-2 c = rw (c .prunes-on .ensures, c .before .enum-told .given .1)
 
 pub on-pruned-spec : {M : Type 1} → statement M

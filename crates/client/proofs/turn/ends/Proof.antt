@@ -1,6 +1,5 @@
 -- `client::turn::ends` meets its contract.
 use borrow.Author.Needs.{needs}
-use Rattle.client.specs.Turn.{ends}
 use Rattle.client.proofs.turn.ends.Statement.{statement}
 use Rattle.client.proofs.turn.ends.Tie as tie
 
@@ -11,7 +10,6 @@ over-requires : tie.Need-over-requires
 over-requires c κs = search needs
 
 returns : tie.Need-returns
-unfolding ends
 returns c = rw (c .over .ensures, c .before .blank .ensures)
 
 pub ends-spec : {M : Type 1} → statement M

@@ -1,6 +1,5 @@
 -- `client::turn::over` meets its contract.
 use borrow.Author.Needs.{needs}
-use Rattle.client.specs.Turn.{over}
 use Rattle.client.proofs.turn.over.Statement.{statement}
 use Rattle.client.proofs.turn.over.Tie as tie
 
@@ -14,7 +13,6 @@ blank-requires : tie.Need-blank-requires
 blank-requires c κs = search needs
 
 returns : tie.Need-returns
-unfolding over
 returns c = rw (c .blank .ensures, c .before .idle .ensures, c .before .before .before .of .ensures)
 
 pub over-spec : {M : Type 1} → statement M

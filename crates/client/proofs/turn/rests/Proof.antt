@@ -1,6 +1,5 @@
 -- `client::turn::rests` meets its contract.
 use borrow.Author.Needs.{needs}
-use Rattle.client.specs.Turn.{rests}
 use Rattle.client.proofs.turn.rests.Statement.{statement}
 use Rattle.client.proofs.turn.rests.Tie as tie
 
@@ -11,7 +10,6 @@ blank-requires-2 : tie.Need-blank-requires-2
 blank-requires-2 c κs = search needs
 
 returns : tie.Need-returns
-unfolding rests
 returns c = rw (c .blank2 .ensures, c .before .blank .ensures)
 
 pub rests-spec : {M : Type 1} → statement M

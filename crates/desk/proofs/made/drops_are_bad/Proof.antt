@@ -6,7 +6,7 @@ use lib.ListN.{length, drop}
 use Rattle.layout.specs.Plan.{badDrops}
 use Rattle.layout.proofs.Fronts.{any-more, any-over}
 use Rattle.layout.proofs.Thinning.{any-bad}
-use Rattle.desk.specs.Made.{namedSets}
+use Rattle.desk.specs.InsideMade.{namedSets}
 use Rattle.desk.proofs.Wishes.{named-in}
 use Rattle.desk.proofs.made.drops_are_bad.Statement.{statement}
 use Rattle.desk.proofs.made.drops_are_bad.Tie as tie

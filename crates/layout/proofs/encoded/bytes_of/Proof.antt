@@ -2,7 +2,7 @@ use mathlib.Core.Path.{_≡_}
 use Rattle.num.specs.Bytes.{leBytes}
 use Rattle.layout.specs.Value.{layOf}
 use Rattle.layout.specs.Codec.{bytesOf, encode}
-use Rattle.layout.specs.Growing.{nothing}
+use Rattle.layout.specs.InsideGrowing.{nothing}
 use native.Mathlib.Omega.{arith}
 use Rattle.num.proofs.Numbers.{le-length}
 use Rattle.layout.proofs.Growing.{grown-count, grown-both}

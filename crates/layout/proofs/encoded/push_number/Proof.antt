@@ -2,7 +2,7 @@ use Prim.Native.Nat.{_-_, _+_, _≤_}
 use native.Mathlib.Omega.{arith}
 use native.Mathlib.Nat.{sub-zero}
 use Rattle.num.specs.Bytes.{leBytes}
-use Rattle.layout.specs.Growing.{grown}
+use Rattle.layout.specs.InsideGrowing.{grown}
 use Rattle.layout.proofs.Growing.{Put, put-none, put-number, number-put}
 use Rattle.layout.proofs.encoded.push_number.Statement.{statement}
 use Rattle.layout.proofs.encoded.push_number.Tie as tie

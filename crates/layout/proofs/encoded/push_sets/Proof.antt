@@ -5,7 +5,7 @@ use mathlib.Core.List.{map}
 use lib.ListN.{length, take, drop, length-map}
 use Rattle.layout.specs.Value.{layOf, unitsIn}
 use Rattle.layout.specs.Codec.{setsBytes}
-use Rattle.layout.specs.Growing.{grown}
+use Rattle.layout.specs.InsideGrowing.{grown}
 use Rattle.layout.proofs.Fronts.{front-length}
 use Rattle.layout.proofs.Growing.{Put, put-none, section-put, grown-count}
 use Rattle.layout.proofs.Sections.{put-set, sets-put}

@@ -1,6 +1,6 @@
 use Prim.Native.Nat.{ℕ}
 use borrow.Author.Tests.{ne-eqb}
-use Rattle.marked.specs.Numbers.{askOf}
+use Rattle.marked.specs.InsideNumbers.{askOf}
 use borrow.Author.Needs.{needs}
 use Rattle.marked.proofs.row.ask_of.Statement.{statement}
 use Rattle.marked.proofs.row.ask_of.Tie as tie

@@ -1,7 +1,7 @@
 -- The const is the table of the rules, number for number.
 use mathlib.Core.Path.{refl}
 use Rattle.marked.specs.Table.{rows}
-use Rattle.marked.specs.Numbers.{numbersOf}
+use Rattle.marked.specs.InsideNumbers.{numbersOf}
 use Rattle.marked.proofs.table.table.Statement.{statement}
 use Rattle.marked.proofs.table.table.Tie as tie
 

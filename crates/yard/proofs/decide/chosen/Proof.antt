@@ -1,6 +1,6 @@
 use borrow.Author.Needs.{needs}
 use mathlib.Core.Path.{sym}
-use Rattle.yard.proofs.Memories.{units-same}
+use Rattle.rule.proofs.Testing.{units-same}
 use Rattle.rule.specs.World.{shapeUnder}
 use Rattle.rule.specs.Lent.{unitsIn}
 use Rattle.rule.specs.Steps.{step}

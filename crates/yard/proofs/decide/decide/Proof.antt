@@ -1,6 +1,7 @@
 use borrow.Author.Needs.{needs}
 use mathlib.Core.Path.{sym, _∙_}
-use Rattle.yard.proofs.Settling.{tested, decides-unlent, decides-decided, decided-small}
+use Rattle.rule.proofs.Testing.{test-says}
+use Rattle.yard.proofs.Settling.{decides-unlent, decides-decided, decided-small}
 use Rattle.yard.proofs.decide.decide.Statement.{statement}
 use Rattle.yard.proofs.decide.decide.Tie as tie
 
@@ -21,7 +22,7 @@ returns c =
 chosen-requires : tie.Need-chosen-requires
 chosen-requires c κs =
     let a = c .before .before .before .before .before .args in
-    tested (a .yard) (a .places) (a .units .now) (sym (c .before .before .test-number .ensures) ∙ c .before .if1 .left) .memories
+    test-says (a .yard) (a .places) (a .units .now) (sym (c .before .before .test-number .ensures) ∙ c .before .if1 .left) .memories
 
 place-of-requires : tie.Need-place-of-requires
 place-of-requires c κs = search needs
@@ -29,7 +30,7 @@ place-of-requires c κs = search needs
 settle-requires : tie.Need-settle-requires
 settle-requires c κs =
     let a = c .before .before .before .before .before .before .before .before .before .args in
-    decided-small (c .before .before .before .chosen .ensures) (tested (a .yard) (a .places) (a .units .now) (sym (c .before .before .before .before .before .before .test-number .ensures) ∙ c .before .before .before .before .before .if1 .left) .few)
+    decided-small (c .before .before .before .chosen .ensures) (test-says (a .yard) (a .places) (a .units .now) (sym (c .before .before .before .before .before .before .test-number .ensures) ∙ c .before .before .before .before .before .if1 .left) .few)
 
 same-length-2 : tie.Need-same-length-2
 same-length-2 c = search needs

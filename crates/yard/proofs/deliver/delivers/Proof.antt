@@ -1,7 +1,7 @@
 use borrow.Author.Needs.{needs}
 use mathlib.Core.Path.{sym}
 use native.Mathlib.Omega.{arith}
-use Rattle.yard.proofs.Memories.{units-same}
+use Rattle.rule.proofs.Testing.{units-same}
 use Rattle.rule.specs.World.{shapeUnder}
 use Rattle.rule.specs.Lent.{unitsIn}
 use Rattle.yard.proofs.Delivering.{decided-moved, delivers-nobody, delivers-brought}

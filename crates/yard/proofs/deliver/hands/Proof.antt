@@ -1,7 +1,7 @@
 use borrow.Author.Needs.{needs}
 use mathlib.Core.Path.{sym}
 use borrow.Author.Tests.{lt-ltb, le-ltb}
-use Rattle.yard.proofs.Memories.{units-same}
+use Rattle.rule.proofs.Testing.{units-same}
 use Rattle.rule.specs.Lent.{unitsIn}
 use mathlib.Core.Bool.{not}
 use Rattle.num.proofs.Tests.{or-false}

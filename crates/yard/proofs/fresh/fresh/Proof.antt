@@ -47,7 +47,7 @@ use Rattle.sequencer.specs.declared.Sequencer.{Sequencer}
 use Rattle.sequencer.proofs.Sequencer as Q
 use Rattle.yard.specs.Bag.{blanked}
 use Rattle.rule.specs.Fresh.{IsMade}
-use Rattle.yard.specs.Prepared.{IsPrepared}
+use Rattle.yard.specs.InsidePrepared.{IsPrepared}
 use Rattle.rule.specs.declared.Letter.{Letter}
 use Rattle.yard.specs.declared.fresh.Prepared.{Prepared}
 use Rattle.yard.proofs.Letters as L

@@ -1,6 +1,6 @@
 use borrow.Author.Needs.{needs}
 use mathlib.Core.Path.{_≡_}
-use Rattle.sequencer.specs.Unique.{told-is}
+use Rattle.sequencer.proofs.Unique.{told-is}
 use Rattle.yard.proofs.machine.asking.Statement.{statement}
 use Rattle.yard.proofs.machine.asking.Tie as tie
 

@@ -48,7 +48,7 @@ use Rattle.client.specs.declared.state.Job.{Job}
 use Rattle.client.proofs.state.Job as J
 use Rattle.yard.specs.Bag.{takeAt, putAt, dropAt}
 use Rattle.rule.specs.Lent.{lentOf, IsStep}
-use Rattle.yard.specs.Settled.{placeOf, Decides}
+use Rattle.yard.specs.InsideSettled.{letterPlace, Decides}
 use Rattle.rule.specs.declared.Letter.{Letter}
 use Rattle.rule.specs.declared.Yard.{Yard}
 use Rattle.rule.specs.declared.Step.{Step}
@@ -168,8 +168,8 @@ module _ {M : Type 1} (𝓤 : URA M) (H : Heap 𝓤) (A : Atoms 𝓤) (W : Given
   asks-place-of : ent 𝓤 (emp 𝓤) (PlaceOf 𝓤 H A at-mem run .pre to-place-of)
   asks-place-of = qed W [] ∵ nothing ! $ owned ! S.the-row (Is S.the-row) (step-makes 𝓤 H A) st _ is-step $ fjoin ! $ nothing ! $ join ! $ frame ! $ done !
 
-  ensures-place-of : (r : ℕ) → ent 𝓤 (ensured 𝓤 H A place-of.ended (place-of.clauses 𝓤 H A at-mem run) tt (st, tt) tt r) (fact 𝓤 (r ≡ placeOf st))
-  ensures-place-of r = exE 𝓤 _ (λ ws. snd∗ 𝓤 (sem 𝓤 H A (lasts place-of.ended tt (st, tt) ws)) (fact 𝓤 (r ≡ placeOf st)))
+  ensures-place-of : (r : ℕ) → ent 𝓤 (ensured 𝓤 H A place-of.ended (place-of.clauses 𝓤 H A at-mem run) tt (st, tt) tt r) (fact 𝓤 (r ≡ letterPlace st))
+  ensures-place-of r = exE 𝓤 _ (λ ws. snd∗ 𝓤 (sem 𝓤 H A (lasts place-of.ended tt (st, tt) ws)) (fact 𝓤 (r ≡ letterPlace st)))
 
   abbrev to-take : ℕ → GName → ℕ → Val → Take 𝓤 H A at-mem run .Ghost
   to-take ν δ i v = (((ν ∷ [], tt), (fullShare, tt), tt, (at-list b o δ ts, (i, tt)), (s ∷ [], (v ∷ [], tt))), tt)
@@ -211,7 +211,7 @@ module _ {M : Type 1} (𝓤 : URA M) (H : Heap 𝓤) (A : Atoms 𝓤) (W : Given
       nothing ! $ owned ! L.row (Is L.row) (letter-makes 𝓤 H A) (d .letter) _ is $ fjoin ! $ owned ! usize (Is usize) (uint-makes 𝓤 H A W w64) (d .place) _ (refl, fits) $ fjoin ! $ move ! (2 ∷ 0 ∷ []) $ fjoin ! $ move ! (1 ∷ 0 ∷ []) $ join ! $ frame ! $ done !
 
   -- the callees' facts together are the step's
-  agree : (i : ℕ) (l : Letter) (d : Settled) (zs xs : List Letter) (vs : List ℕ) → i ≡ placeOf st → l ≡ takeAt ts i → Decides yard h (length ts) l us st job d vs → zs ≡ dropAt ts (d .count) (d .gone) → xs ≡ putAt zs (d .place) (d .letter)
+  agree : (i : ℕ) (l : Letter) (d : Settled) (zs xs : List Letter) (vs : List ℕ) → i ≡ letterPlace st → l ≡ takeAt ts i → Decides yard h (length ts) l us st job d vs → zs ≡ dropAt ts (d .count) (d .gone) → xs ≡ putAt zs (d .place) (d .letter)
       → IsStep (lentOf yard h ts us) st job (d .stepped) (d .sequencer) xs vs
   agree i l d zs xs vs found taken decided dropped placed =
       let settled = decided .settles ts refl (sym (taken ∙ ap (λ (k : ℕ). takeAt ts k) found)) in
@@ -240,7 +240,7 @@ module _ {M : Type 1} (𝓤 : URA M) (H : Heap 𝓤) (A : Atoms 𝓤) (W : Given
         use0 W (raw (PlaceOf 𝓤 H A at-mem run .pre to-place-of)) asks-place-of $
         calls-at ! fm (PlaceOf 𝓤 H A at-mem run) known-place-of to-place-of (and-then ! (load ! (from ! (stop !)) (look ! 39 refl)) (no-more !)) (λ v₀.
         use1 W (later (some (λ (r : ℕ). (‵ ftrue ⊛ ‵ (usize .own r (v₀ ∷ []))) ⊛ raw (ensured 𝓤 H A place-of.ended (place-of.clauses 𝓤 H A at-mem run) tt (st, tt) tt r)))) (id⊢ 𝓤 _) $ await ! tt $ pick ! (λ i.
-        split ! $ move ! (1 ∷ []) $ use1 W (raw (fact 𝓤 (i ≡ placeOf st))) (ensures-place-of i) $ heard ! (i ≡ placeOf st) (λ found. split ! $ drop ! $
+        split ! $ move ! (1 ∷ []) $ use1 W (raw (fact 𝓤 (i ≡ letterPlace st))) (ensures-place-of i) $ heard ! (i ≡ letterPlace st) (λ found. split ! $ drop ! $
         peeks ! usize (Is usize) (shows 𝓤 H A usize) i (v₀ ∷ []) (λ isi. drop ! $
         land ! (from ! (stop !)) (init ! 34 refl (uint-lawful 𝓤 H A W w64 .typed i _ isi .0)) $
         assigns ! (addr ! (from ! (fld ! refl (hop ! (look-in ! 42 (sub ! 0 refl (whole !))) (stop !))))) (from ! (stop !)) (init ! 28 refl (tt, tt)) $

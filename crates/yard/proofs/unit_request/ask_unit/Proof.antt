@@ -1,7 +1,8 @@
 use mathlib.Core.Path.{sym}
 use Rattle.unit.specs.Shape.{shapeOf}
+use Rattle.unit.proofs.Answers.{after-read}
 use Rattle.unit.proofs.Encoding.{encode-decode}
-use Rattle.yard.specs.Parts.{unitSays, unitAfter}
+use Rattle.rule.specs.Serve.{unitSays, unitAfter}
 use borrow.Author.Needs.{needs}
 use Rattle.yard.proofs.unit_request.ask_unit.Statement.{statement}
 use Rattle.yard.proofs.unit_request.ask_unit.Tie as tie
@@ -36,30 +37,6 @@ enum-known-ask-5 c = search needs
 seal-on-requires : tie.Need-seal-on-requires
 seal-on-requires c κs = search needs
 
-enum-told : tie.Need-enum-told
-enum-told c = search needs
-
-blank-requires : tie.Need-blank-requires
-blank-requires c κs = search needs
-
-enum-told-2 : tie.Need-enum-told-2
-enum-told-2 c = search needs
-
-blank-requires-2 : tie.Need-blank-requires-2
-blank-requires-2 c κs = search needs
-
-enum-told-3 : tie.Need-enum-told-3
-enum-told-3 c = search needs
-
-blank-requires-3 : tie.Need-blank-requires-3
-blank-requires-3 c κs = search needs
-
-enum-told-4 : tie.Need-enum-told-4
-enum-told-4 c = search needs
-
-blank-requires-4 : tie.Need-blank-requires-4
-blank-requires-4 c κs = search needs
-
 same-length : tie.Need-same-length
 same-length c = search needs
 
@@ -72,7 +49,7 @@ same-length-2 c = search needs
 
 returns-2 : tie.Need-returns-2
 unfolding unitSays unitAfter
-returns-2 c = rw (c .before .before .before .ask2 .given .1) (record { response-is = c .read-on .ensures; memory-is = sym (encode-decode (shapeOf (c .before .before .before .before .before .before .args .mem .now)) (c .before .before .before .before .before .before .args .mem .now) (c .before .before .before .before .before .slice-known .given) (c .before .before .before .before .before .before .pre)) })
+returns-2 c = rw (c .before .before .before .ask2 .given .1) (record { response-is = c .read-on .ensures; memory-is = sym (rw (after-read _ _ _ _) (encode-decode (shapeOf (c .before .before .before .before .before .before .args .mem .now)) (c .before .before .before .before .before .before .args .mem .now) (c .before .before .before .before .before .slice-known .given) (c .before .before .before .before .before .before .pre))) })
 
 same-length-3 : tie.Need-same-length-3
 same-length-3 c = search needs
@@ -95,22 +72,6 @@ returns-5 : tie.Need-returns-5
 unfolding unitSays unitAfter
 returns-5 c = rw (c .before .before .before .before .before .ask5 .given .1) (c .before .before .seal-on .ensures)
 
-returns-6 : tie.Need-returns-6
-unfolding unitSays unitAfter
-returns-6 c = rw (c .before .enum-told .given .1) (record { response-is = c .blank .ensures; memory-is = sym (encode-decode (shapeOf (c .before .before .before .before .args .mem .now)) (c .before .before .before .before .args .mem .now) (c .before .before .before .slice-known .given) (c .before .before .before .before .pre)) })
-
-returns-7 : tie.Need-returns-7
-unfolding unitSays unitAfter
-returns-7 c = rw (c .before .enum-told2 .given .1) (record { response-is = c .blank2 .ensures; memory-is = sym (encode-decode (shapeOf (c .before .before .before .before .args .mem .now)) (c .before .before .before .before .args .mem .now) (c .before .before .before .slice-known .given) (c .before .before .before .before .pre)) })
-
-returns-8 : tie.Need-returns-8
-unfolding unitSays unitAfter
-returns-8 c = rw (c .before .enum-told3 .given .1) (record { response-is = c .blank3 .ensures; memory-is = sym (encode-decode (shapeOf (c .before .before .before .before .args .mem .now)) (c .before .before .before .before .args .mem .now) (c .before .before .before .slice-known .given) (c .before .before .before .before .pre)) })
-
-returns-9 : tie.Need-returns-9
-unfolding unitSays unitAfter
-returns-9 c = rw (c .before .enum-told4 .given .1) (record { response-is = c .blank4 .ensures; memory-is = sym (encode-decode (shapeOf (c .before .before .before .before .args .mem .now)) (c .before .before .before .before .args .mem .now) (c .before .before .before .slice-known .given) (c .before .before .before .before .pre)) })
-
 pub ask-unit-spec : {M : Type 1} → statement M
 ask-unit-spec =
     tie.close
@@ -125,14 +86,6 @@ ask-unit-spec =
     prune-on-requires
     enum-known-ask-5
     seal-on-requires
-    enum-told
-    blank-requires
-    enum-told-2
-    blank-requires-2
-    enum-told-3
-    blank-requires-3
-    enum-told-4
-    blank-requires-4
     same-length
     returns
     same-length-2
@@ -142,8 +95,4 @@ ask-unit-spec =
     same-length-4
     returns-4
     same-length-5
-    returns-5
-    returns-6
-    returns-7
-    returns-8
-    returns-9)
+    returns-5)

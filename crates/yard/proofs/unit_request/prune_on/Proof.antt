@@ -1,8 +1,8 @@
 use borrow.Author.Needs.{needs}
-use mathlib.Core.Path.{_≡_, ap, _∙_}
+use mathlib.Core.Path.{_≡_, refl, ap, _∙_}
 use Rattle.rule.specs.Serve.{saying, bare}
 use Rattle.client.specs.declared.Reply.{Reply}
-use Rattle.yard.proofs.Doing.{prune-does}
+use Rattle.yard.proofs.Doing.{does}
 use Rattle.yard.proofs.unit_request.prune_on.Statement.{statement}
 use Rattle.yard.proofs.unit_request.prune_on.Tie as tie
 
@@ -20,7 +20,7 @@ same-length c = search needs
 
 returns : tie.Need-returns
 returns c =
-    let d = prune-does (c .before .before .before .before .before .before .before .args .mem .now) (c .before .before .before .before .before .before .slice-known .given) (c .before .before .before .before .before .before .before .pre) (c .before .before .before .before .prune .ensures) (c .before .before .slice-known2 .given) in
+    let d = does (c .before .before .before .before .before .before .before .args .mem .now) (c .before .before .before .before .before .before .slice-known .given) (c .before .before .before .before .before .before .before .pre) refl (c .before .before .before .before .prune .ensures) (c .before .before .slice-known2 .given) in
     record { response-is = c .bare .ensures ∙ ap bare (c .before .saying .ensures ∙ ap saying (d .says)); memory-is = d .becomes }
 
 pub prune-on-spec : {M : Type 1} → statement M

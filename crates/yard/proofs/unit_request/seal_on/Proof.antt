@@ -4,7 +4,11 @@ use Rattle.rule.specs.Serve.{saying, bare}
 use Rattle.client.specs.declared.Reply.{Reply}
 use Rattle.rule.specs.Serve.{edgeOr, edged, saying, bare}
 use native.Mathlib.Omega.{arith}
-use Rattle.yard.proofs.Doing.{seal-does}
+use borrow.Author.Tests.{le-leb}
+use Rattle.num.specs.Limits.{lastEpoch}
+use Rattle.unit.specs.Unit.{Report}
+use Rattle.unit.specs.Unit.Request.{seal}
+use Rattle.yard.proofs.Doing.{does, tells}
 use Rattle.yard.proofs.unit_request.seal_on.Statement.{statement}
 use Rattle.yard.proofs.unit_request.seal_on.Tie as tie
 
@@ -23,8 +27,12 @@ same-length c = search needs
 returns : tie.Need-returns
 unfolding edged
 returns c =
-    let d = seal-does (c .before .before .before .before .before .before .before .args .mem .now) (c .before .before .before .before .before .before .slice-known .given) (c .before .before .before .before .before .before .before .pre) (omega arith) (c .before .before .before .before .seal .ensures) (c .before .before .slice-known2 .given) in
-    record { response-is = c .bare .ensures ∙ ap bare (c .before .edge-or .ensures ∙ rw (d .0, d .1 .says)); memory-is = d .1 .becomes }
+    let s = c .before .before .before .before .before .before .before in
+    let bytes = c .before .before .before .before .before .before .slice-known .given in
+    let w = c .before .before .before .before .seal .ensures in
+    let d = does (s .args .mem .now) bytes (s .pre) (le-leb (s .args .epoch .0) lastEpoch (omega arith)) (w .answered) (c .before .before .slice-known2 .given) in
+    let e = w .edge-is ∙ ap (λ (t : Report). t .edge) (tells (s .args .mem .now) bytes (s .pre) (seal (s .args .epoch))) in
+    record { response-is = c .bare .ensures ∙ ap bare (c .before .edge-or .ensures ∙ rw (e, d .says)); memory-is = d .becomes }
 
 pub seal-on-spec : {M : Type 1} → statement M
 seal-on-spec =

@@ -1,11 +1,11 @@
 use borrow.Author.Needs.{needs}
-use mathlib.Core.Path.{_≡_, ap, _∙_, sym}
+use mathlib.Core.Path.{_≡_, refl, ap, _∙_, sym}
 use Rattle.rule.specs.Serve.{saying, bare}
 use Rattle.client.specs.declared.Reply.{Reply}
 use lib.Seq.{length-take-le}
 use native.Mathlib.Omega.{arith}
 use Rattle.client.specs.Message.{pageLimit}
-use Rattle.yard.proofs.Doing.{write-does}
+use Rattle.yard.proofs.Doing.{does}
 use Prim.Native.Nat.{_≤_}
 use lib.ListN.{length, length-map}
 use Rattle.yard.proofs.unit_request.write_on.Statement.{statement}
@@ -41,7 +41,7 @@ same-length c = search needs
 
 returns : tie.Need-returns
 returns c =
-    let d = write-does (c .before .before .before .before .before .before .before .before .before .before .before .args .mem .now) (c .before .before .before .before .before .before .before .before .before .before .slice-known .given) (c .before .before .before .before .before .before .before .before .before .before .before .pre) (c .before .before .before .before .write .ensures) (c .before .before .slice-known2 .given) in
+    let d = does (c .before .before .before .before .before .before .before .before .before .before .before .args .mem .now) (c .before .before .before .before .before .before .before .before .before .before .slice-known .given) (c .before .before .before .before .before .before .before .before .before .before .before .pre) refl (c .before .before .before .before .write .ensures) (c .before .before .slice-known2 .given) in
     record { response-is = c .bare .ensures ∙ ap bare (c .before .saying .ensures ∙ rw (d .says, c .before .before .before .before .before .before .before .before .kind-of .ensures, c .before .before .before .before .before .before .before .len-of .ensures .1)); memory-is = d .becomes ∙ rw (c .before .before .before .before .before .before .before .before .kind-of .ensures, c .before .before .before .before .before .before .before .len-of .ensures .1) }
 
 pub write-on-spec : {M : Type 1} → statement M
