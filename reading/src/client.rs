@@ -4,7 +4,7 @@ use crate::layout::Layout;
 use crate::letter::{Ask, Body, Letter, Reply, Stamp};
 use crate::no::{self, unless, No, LIMIT};
 use crate::operation::{Next, Operation};
-use crate::plan::Change;
+use crate::plan::{Change, DROPS};
 use crate::shape::Shape;
 use crate::shortcut::Shortcut;
 use crate::unit::Page;
@@ -21,13 +21,13 @@ pub enum Job {
 }
 
 impl Job {
-    /// Position and page, checked when the operation begins in a yard of this shape.
+    /// Position, page and how many units to drop, checked when the operation begins in a yard of this shape.
     pub fn check(&self, shape: Shape) -> Result<(), No> {
         match self {
             Job::Append(data) => unless(data.len() > shape.payload(), no::PAGE),
             Job::Read(p) | Job::Fill(p) | Job::Trim(p) => unless(*p >= LIMIT, no::POSITION),
             Job::Prune(p) => unless(*p > LIMIT, no::POSITION),
-            Job::Reorganise(_) => Ok(()),
+            Job::Reorganise(change) => unless(change.drops.len() > DROPS, no::LAYOUT),
         }
     }
 

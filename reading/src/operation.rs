@@ -5,6 +5,7 @@ use crate::layout::Layout;
 use crate::letter::{Ask, Reply};
 use crate::no::{self, No, LIMIT};
 use crate::plan::{plan, Plan};
+use crate::shape::Shape;
 use crate::shortcut::Shortcut;
 use crate::unit::Page;
 
@@ -83,13 +84,17 @@ fn done() -> Next {
     Next::End(no::FINE, None)
 }
 
-/// Any other answer ends the operation with its number; one without a number never answers the request.
+/// Any other answer ends the operation with its number; one without a number that a machine gives never answers the request.
 fn other(reply: &Reply) -> Next {
     match reply {
-        Reply::Refused(no::FINE) => Next::Ignore,
-        Reply::Refused(number) => Next::End(*number, None),
+        Reply::Refused(number) if (no::MEMORY..=no::SUCCESSOR).contains(number) => Next::End(*number, None),
         _ => Next::Ignore,
     }
+}
+
+/// A page that a unit may show.
+fn showable(page: &Page) -> bool {
+    page.bytes().len() <= Shape::Large.payload()
 }
 
 fn pop(mut route: Route) -> Option<(u8, Route)> {
@@ -142,12 +147,12 @@ impl Operation {
             (Wait::Write { nth, first: true, .. }, Reply::Refused(no::TRIMMED | no::WRITTEN)) if nth < TOKENS => self.token(nth + 1),
             (Wait::Write { nth, first: false, rest }, Reply::Refused(no::WRITTEN)) => self.write(nth, false, rest),
 
-            (Wait::Read, Reply::Shown(page)) => Next::End(no::FINE, Some(page.clone())),
+            (Wait::Read, Reply::Shown(page)) if showable(page) => Next::End(no::FINE, Some(page.clone())),
 
             (Wait::Fill { page, rest, .. }, Reply::Fine) => self.fill(page, false, rest),
             (Wait::Fill { first: true, rest, .. }, Reply::Refused(no::WRITTEN)) if shortcut != Some(Shortcut::FillBlind) => self.look(rest, shortcut),
             (Wait::Fill { page, rest, .. }, Reply::Refused(no::WRITTEN)) => self.fill(page, false, rest),
-            (Wait::Look { rest }, Reply::Shown(page)) => self.fill(page.clone(), false, rest),
+            (Wait::Look { rest }, Reply::Shown(page)) if showable(page) => self.fill(page.clone(), false, rest),
 
             (Wait::Trim { rest }, Reply::Fine) => self.trim(rest),
             (Wait::Prune { rest }, Reply::Fine) => self.prune(rest),

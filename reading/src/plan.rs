@@ -3,6 +3,9 @@
 use crate::layout::{good_set, Layout, Range, Set, RANGES, SETS, UNITS};
 use crate::no::{self, unless, No, LIMIT};
 
+/// As many units as a reorganise has room to drop.
+pub const DROPS: usize = UNITS as usize;
+
 /// Units to drop, and new sets if wanted.
 #[derive(Clone, Debug, PartialEq, Eq)]
 pub struct Change {

@@ -2,9 +2,9 @@
 
 use crate::bytes::Reader;
 use crate::client::Job;
-use crate::layout::{Layout, Set, SETS, SET_UNITS, UNITS};
+use crate::layout::{Layout, Set, SETS, SET_UNITS};
 use crate::layout_bytes;
-use crate::plan::Change;
+use crate::plan::{Change, DROPS};
 use crate::yard::{Step, Yard};
 
 #[derive(Clone, Debug, PartialEq, Eq)]
@@ -15,9 +15,6 @@ pub struct Play {
 
 /// The longest file.
 pub const BYTES: usize = 65_536;
-
-/// As many units as a reorganise has room to drop.
-const DROPS: usize = UNITS as usize;
 
 const APPEND: u8 = 1;
 const READ: u8 = 2;

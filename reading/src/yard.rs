@@ -93,7 +93,7 @@ impl Yard {
         unless(!(1..=UNITS).contains(&unit) || self.stopped.contains(&unit), no::NOBODY)
     }
 
-    /// 17, 18, 19, 16, then 2 and 3.
+    /// 17, 18, 19, 16, then 2, 3 and 10.
     fn begin(&mut self, client: u8, job: &Job) -> Result<Option<Ended>, No> {
         let full = self.bag.len() >= LETTERS;
         let shape = self.held.units_shape();

@@ -3,14 +3,14 @@
 use reading::client::Job;
 use reading::layout::{Layout, Range};
 use reading::lent::{test, Lent};
-use reading::letter::{Ask, Body, Letter, Stamp};
+use reading::letter::{Ask, Body, Letter, Reply, Stamp};
 use reading::memory;
 use reading::no::{self, number_of, LIMIT};
 use reading::plan::{plan, Change};
 use reading::sequencer::Sequencer;
 use reading::successor::offer;
 use reading::shape::Shape;
-use reading::unit::Unit;
+use reading::unit::{Page, Unit};
 use reading::yard::{Step, Yard};
 
 fn layout(epoch: u32, sets: &[&[u8]], ranges: &[(u64, u8)]) -> Layout {
@@ -54,6 +54,35 @@ fn begin_refuses_in_order() {
     assert_eq!(refused(&mut yard, Step::Begin(3, Job::Append(vec![0; 33]))), no::PAGE);
     assert_eq!(refused(&mut yard, Step::Begin(3, Job::Prune(LIMIT + 1))), no::POSITION);
     assert_eq!(yard.step(&Step::Begin(3, Job::Prune(LIMIT))).0, no::FINE);
+    let dropping = |count| Step::Begin(4, Job::Reorganise(Change { drops: vec![2; count], sets: Vec::new() }));
+    assert_eq!(refused(&mut yard, dropping(9)), no::LAYOUT);
+    assert_eq!(yard.step(&dropping(8)).0, no::FINE);
+}
+
+/// What never answers a read leaves its client waiting; the unit's own number then ends it.
+#[test]
+fn misfits_are_ignored() {
+    let mut yard = yard();
+    yard.step(&Step::Begin(1, Job::Read(0)));
+    let deliver = Step::Deliver { place: 0, keep: false, keep_answer: true };
+    for _ in 0..3 {
+        yard.step(&deliver);
+    }
+    let Body::Answers(Reply::Refused(no::UNWRITTEN), note) = yard.bag[0].body.clone() else {
+        panic!("the tail holds nothing");
+    };
+    let stamp = yard.bag[0].stamp;
+    let mut hand = |reply| {
+        yard.bag = vec![Letter { stamp, body: Body::Answers(reply, note) }];
+        let (answer, ended) = yard.step(&deliver);
+        assert_eq!(answer, no::FINE);
+        ended
+    };
+    for misfit in [no::FINE, no::SET_LOST, no::UNKNOWN, u8::MAX] {
+        assert!(hand(Reply::Refused(misfit)).is_none());
+    }
+    assert!(hand(Reply::Shown(Page::Data(vec![0; 81]))).is_none());
+    assert!(hand(Reply::Refused(no::SUCCESSOR)).is_some());
 }
 
 #[test]

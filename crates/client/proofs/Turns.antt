@@ -3,31 +3,41 @@ use mathlib.Core.Path.{_≡_, refl, sym, subst, _∙_}
 use mathlib.Core.Bool.{true, false, _||_}
 use Prim.Native.Nat.{ℕ, _+_, _≤_, _<_}
 use native.Mathlib.Omega.{arith}
-use lib.Dec.{eqb}
+use borrow.Author.Tests.{eqb-false, ne-eqb, le-ltb}
+use lib.Dec.{eqb, ltb}
 use Rattle.num.specs.Limits.{limit}
 use Rattle.num.specs.declared.Position.{Position}
-use Rattle.num.proofs.Tests.{false-true}
+use Rattle.num.proofs.Tests.{false-true, or-false}
 use Rattle.layout.specs.declared.Layout.{Layout}
 use Rattle.layout.specs.Value.{goodValue}
 use Rattle.client.specs.declared.Ask.the-variants.{Fetch}
+use Rattle.client.specs.declared.Page.{Page}
 use Rattle.client.specs.declared.Query.{Query}
+use Rattle.client.specs.declared.Reply.{Reply}
 use Rattle.client.specs.declared.Response.{Response}
 use Rattle.client.specs.declared.Stamp.{Stamp}
+use Rattle.client.specs.declared.Phase.{Phase}
 use Rattle.client.specs.declared.Client.{Client}
 use Rattle.client.specs.declared.state.Job.{Job}
 use Rattle.client.specs.declared.turn.Turn.{Turn}
-use Rattle.client.specs.Message.{plain}
-use Rattle.client.specs.Client.{tokenLimit, lastNumber, busy, atPosition, holding, planning}
-use Rattle.client.specs.Turn.{rests, ends, sent, sends, otherwise}
+use Rattle.client.specs.Message.{lastRefusal, noRefusal, isShowable, plain}
+use Rattle.client.specs.Client.{tokenLimit, lastNumber, busy, atPosition, carrying, holding, planning}
+use Rattle.client.specs.Turn.{rests, over, ends, sent, sends, otherwise}
 use Rattle.client.specs.Begin.{beginAnswer, withJob, beginTurn, giveUp}
 use Rattle.client.specs.Way.{headFor, afterFor, unitAbove, planFor, startFor}
 use Rattle.client.specs.Append.{draws, writes, writesAt, writesOn, notAtHead, notLater, notWritten}
-use Rattle.client.specs.Fill.{fills, looks, fillsOn, notFilled}
+use Rattle.client.specs.Read.{pageTaken}
+use Rattle.client.specs.Fill.{fills, looks, fillsOn, notFilled, pageCarried}
 use Rattle.client.specs.Trim.{trims, trimsOn, prunes, prunesOn}
 use Rattle.client.specs.Reorganise.{seals, offers, allSealed, sealsOn, reorganises, larger, edgeTaken, notStarted}
-use Rattle.client.specs.Take.{goesOn, holds, answered, awaited, takes}
+use Rattle.client.specs.Take.{goesOn, holds, worked, worksOn, answered, awaited, takes}
 use Rattle.client.proofs.Cases.{either, if-equal, if-below, if-within}
 use Rattle.client.proofs.Clients.{Awaited, awaited-by, is-awaited}
+
+-- what a machine refuses by is not 0
+pub refusal-some : (k : ℕ) → noRefusal k ≡ false → ¬ (k ≡ 0)
+unfolding noRefusal
+refusal-some k e = eqb-false k 0 (or-false (eqb k 0) (ltb lastRefusal k) e .0)
 
 five-or-six : (k : ℕ) → (eqb k 5 || eqb k 6) ≡ true → ¬ (k ≡ 0)
 five-or-six k e z = false-true (subst (λ j. (eqb j 5 || eqb j 6) ≡ true) z e)
@@ -39,9 +49,9 @@ module _ (P : Turn → Type 0) (c : Client) where
   unfolding sends
   sends-cases q spent left = if-within P lastNumber (c .used .0) spent left
 
-  pub otherwise-cases : (k : ℕ) → (k ≡ 0 → P (rests c)) → (¬ (k ≡ 0) → P (ends c k)) → P (otherwise c k)
+  pub otherwise-cases : (k : ℕ) → (noRefusal k ≡ true → P (rests c)) → (¬ (k ≡ 0) → P (ends c k)) → P (otherwise c k)
   unfolding otherwise
-  otherwise-cases k quiet over = if-equal P k 0 quiet over
+  otherwise-cases k quiet over = either P (noRefusal k) quiet (λ e. over (refusal-some k e))
 
   -- ---- append
 
@@ -54,21 +64,31 @@ module _ (P : Turn → Type 0) (c : Client) where
   written-cases u n done on = if-equal P (afterFor c u) 0 done on
 
   pub unwritten-cases : (u n k : ℕ) → (u ≡ headFor c → n < tokenLimit → P (draws c (n + 1))) → (¬ (u ≡ headFor c) → k ≡ 6 → P (writesOn c u n)) →
-      (k ≡ 0 → P (rests c)) → (¬ (k ≡ 0) → P (ends c k)) → P (notWritten c u n k)
+      (noRefusal k ≡ true → P (rests c)) → (¬ (k ≡ 0) → P (ends c k)) → P (notWritten c u n k)
   unfolding notWritten notAtHead notLater
   unwritten-cases u n k again on quiet over =
       if-equal P u (headFor c)
       (λ head. either P (eqb k 5 || eqb k 6) (λ e. if-below P n tokenLimit (again head) (λ z. over (five-or-six k e))) (λ e. otherwise-cases k quiet over))
       (λ later. if-equal P k 6 (on later) (λ e. otherwise-cases k quiet over))
 
+  -- ---- read
+
+  pub page-cases : (g : Page) → (isShowable g ≡ true → P (over c 0 g)) → (isShowable g ≡ false → P (rests c)) → P (pageTaken c g)
+  unfolding pageTaken
+  page-cases g shown quiet = either P (isShowable g) shown quiet
+
   -- ---- fill
+
+  pub look-cases : (u : ℕ) (g : Page) → (isShowable g ≡ true → P (fillsOn (carrying c g) u)) → (isShowable g ≡ false → P (rests c)) → P (pageCarried c u g)
+  unfolding pageCarried
+  look-cases u g shown quiet = either P (isShowable g) shown quiet
 
   pub filled-cases : (u : ℕ) → (afterFor c u ≡ 0 → P (ends c 0)) → (¬ (afterFor c u ≡ 0) → P (fills c (afterFor c u))) → P (fillsOn c u)
   unfolding fillsOn
   filled-cases u done on = if-equal P (afterFor c u) 0 done on
 
   pub unfilled-cases : (u k : ℕ) → (k ≡ 6 → u ≡ headFor c → P (looks c u)) → (k ≡ 6 → ¬ (u ≡ headFor c) → P (fillsOn c u)) →
-      (k ≡ 0 → P (rests c)) → (¬ (k ≡ 0) → P (ends c k)) → P (notFilled c u k)
+      (noRefusal k ≡ true → P (rests c)) → (¬ (k ≡ 0) → P (ends c k)) → P (notFilled c u k)
   unfolding notFilled
   unfilled-cases u k look on quiet over =
       if-equal P k 6 (λ six. if-equal P u (headFor c) (look six) (on six)) (λ e. otherwise-cases k quiet over)
@@ -102,7 +122,7 @@ module _ (P : Turn → Type 0) (c : Client) where
   unfolding allSealed
   start-cases e on over = if-equal P (startFor c e .answer) 0 on over
 
-  pub unstarted-cases : (k : ℕ) → (k ≡ 4 → P (ends c 11)) → (k ≡ 0 → P (rests c)) → (¬ (k ≡ 0) → P (ends c k)) → P (notStarted c k)
+  pub unstarted-cases : (k : ℕ) → (k ≡ 4 → P (ends c 11)) → (noRefusal k ≡ true → P (rests c)) → (¬ (k ≡ 0) → P (ends c k)) → P (notStarted c k)
   unfolding notStarted
   unstarted-cases k overtaken quiet over = if-equal P k 4 overtaken (λ e. otherwise-cases k quiet over)
 
@@ -111,6 +131,10 @@ module _ (P : Turn → Type 0) (c : Client) where
   pub held-cases : (l : Layout) → (goodValue l ≡ true → P (goesOn (c .work) (holding c l))) → (goodValue l ≡ false → P (ends c 10)) → P (holds c l)
   unfolding holds
   held-cases l good bad = either P (goodValue l) good bad
+
+  pub working-cases : (p : Phase) (a : Reply) (g : Page) → (goodValue (c .layout) ≡ true → P (worked p c a g)) → (goodValue (c .layout) ≡ false → P (ends c 10)) → P (worksOn p c a g)
+  unfolding worksOn
+  working-cases p a g good bad = either P (goodValue (c .layout)) good bad
 
   pub takes-cases : (me : ℕ) (s : Stamp) (r : Response) → (Awaited me c s → P (answered (c .stage) c r)) → (¬ Awaited me c s → P (rests c)) → P (takes me c s r)
   unfolding takes
@@ -131,8 +155,15 @@ module _ (P : Turn → Type 0) (c : Client) where
 pub sends-sent : (c : Client) (q : Query) → c .used .0 < lastNumber → sends c q ≡ sent c q
 sends-sent c q left = sends-cases (λ t. t ≡ sent c q) c q (λ spent. absurd (omega arith)) (λ e. refl)
 
-pub otherwise-ends : (c : Client) (k : ℕ) → ¬ (k ≡ 0) → otherwise c k ≡ ends c k
-otherwise-ends c k some = otherwise-cases (λ t. t ≡ ends c k) c k (λ none. absurd (some none)) (λ e. refl)
+pub otherwise-ends : (c : Client) (k : ℕ) → ¬ (k ≡ 0) → k ≤ lastRefusal → otherwise c k ≡ ends c k
+unfolding otherwise noRefusal
+otherwise-ends c k some few = rw (ne-eqb k 0 some, le-ltb lastRefusal k few)
+
+pub page-shown : (c : Client) (g : Page) → isShowable g ≡ true → pageTaken c g ≡ over c 0 g
+page-shown c g shown = page-cases (λ t. t ≡ over c 0 g) c g (λ e. refl) (λ quiet. absurd (false-true (sym quiet ∙ shown)))
+
+pub works-good : (c : Client) (p : Phase) (a : Reply) (g : Page) → goodValue (c .layout) ≡ true → worksOn p c a g ≡ worked p c a g
+works-good c p a g good = working-cases (λ t. t ≡ worked p c a g) c p a g (λ e. refl) (λ bad. absurd (false-true (sym bad ∙ good)))
 
 pub takes-awaited : (me : ℕ) (c : Client) (s : Stamp) (r : Response) → Awaited me c s → takes me c s r ≡ answered (c .stage) c r
 takes-awaited me c s r is = takes-cases (λ t. t ≡ answered (c .stage) c r) c me s r (λ e. refl) (λ other. absurd (other is))

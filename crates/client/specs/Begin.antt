@@ -24,7 +24,7 @@ readyChecks c = 18 if busy (c .stage) ∷ 19 if leb lastNumber (c .used .0) ∷ 
 abbrev pub readyAnswer : Client → ℕ
 readyAnswer c = lowest (readyChecks c)
 
--- position and page come after them (the yard has its own 16 between)
+-- position, page and how many to drop come after them (the yard has its own 16 between)
 abbrev pub beginAnswer : Client → Job → ℕ → ℕ
 beginAnswer c j shape = lowest (readyChecks c ++ jobChecks j shape)
 

@@ -9,9 +9,9 @@ use Rattle.client.specs.declared.Reply.{Reply}
 use Rattle.client.specs.declared.Phase.the-variants.{Filling, Looking}
 use Rattle.client.specs.declared.Client.{Client}
 use Rattle.client.specs.declared.turn.Turn.{Turn}
-use Rattle.client.specs.Message.{numberOf, plain, bearing, ifFine, ifShown}
+use Rattle.client.specs.Message.{isShowable, numberOf, plain, bearing, ifFine, ifShown}
 use Rattle.client.specs.Client.{inPhase, carrying}
-use Rattle.client.specs.Turn.{ends, sends, otherwise}
+use Rattle.client.specs.Turn.{rests, ends, sends, otherwise}
 use Rattle.client.specs.Way.{headFor, afterFor}
 
 -- writes the page carried at u: junk, or what the head holds
@@ -33,6 +33,9 @@ notFilled c u k = cond (eqb k 6) (cond (eqb u (headFor c)) (looks c u) (fillsOn 
 abbrev pub onFilled : Client → ℕ → Reply → Turn
 onFilled c u a = ifFine a (fillsOn c u) (notFilled c u (numberOf a))
 
--- "and carry its page instead"
+-- "and carry its page instead"; a page that no unit shows never answers
+unfoldable pub pageCarried : Client → ℕ → Page → Turn
+pageCarried c u g = cond (isShowable g) (fillsOn (carrying c g) u) (rests c)
+
 abbrev pub onLooked : Client → ℕ → Reply → Page → Turn
-onLooked c u a g = ifShown a (fillsOn (carrying c g) u) (otherwise c (numberOf a))
+onLooked c u a g = ifShown a (pageCarried c u g) (otherwise c (numberOf a))

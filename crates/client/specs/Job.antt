@@ -14,7 +14,7 @@ use Rattle.client.specs.declared.Work.the-variants.{Append, Read, Fill, 
 use Rattle.client.specs.declared.Change.{Change}
 use Rattle.client.specs.declared.state.Job.{Job}
 use Rattle.client.specs.Message.{pageLimit, dataLimit, noPage, junk}
-use Rattle.client.specs.Client.{noChange}
+use Rattle.client.specs.Client.{dropLimit, noChange}
 
 -- 2: position of 2^40 or more; prune above 2^40
 abbrev pub past : Work → Bool
@@ -34,9 +34,18 @@ tooLong (Trim p) len shape = false
 tooLong (Prune p) len shape = false
 tooLong Reorganise len shape = false
 
--- "Position and page (2, 3) are checked when an operation begins, after the yard's own checks"
+-- 10: more units to drop than one reorganise may
+abbrev pub tooManyDrops : Work → ℕ → Bool
+tooManyDrops Append count = false
+tooManyDrops (Read p) count = false
+tooManyDrops (Fill p) count = false
+tooManyDrops (Trim p) count = false
+tooManyDrops (Prune p) count = false
+tooManyDrops Reorganise count = ltb dropLimit count
+
+-- "Position and page (2, 3) are checked when an operation begins, after the yard's own checks"; and how many units are to be dropped (10), behind them
 abbrev pub jobChecks : Job → ℕ → List Check
-jobChecks j shape = 2 if past (j .work) ∷ 3 if tooLong (j .work) (j .len) shape ∷ []
+jobChecks j shape = 2 if past (j .work) ∷ 3 if tooLong (j .work) (j .len) shape ∷ 10 if tooManyDrops (j .work) (j .change .count) ∷ []
 
 abbrev pub jobAnswer : Job → ℕ → ℕ
 jobAnswer j shape = lowest (jobChecks j shape)

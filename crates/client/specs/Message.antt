@@ -1,7 +1,7 @@
 -- What a client sends and what is handed back to it (docs/RULES.md, 8.1).
 use Prim.Native.Nat.{ℕ}
-use mathlib.Core.Bool.{cond}
-use lib.Dec.{eqb}
+use mathlib.Core.Bool.{Bool, cond, _&&_, _||_}
+use lib.Dec.{eqb, leb, ltb}
 use lib.ListN.{replicate}
 use Rattle.num.specs.declared.Position.{Position}
 use Rattle.layout.specs.declared.Layout.{Layout}
@@ -28,6 +28,10 @@ noPage = record { kind = 0; len = 0; bytes = replicate pageLimit 0 }
 
 abbrev pub junk : Page
 junk = record { kind = 2; len = 0; bytes = replicate pageLimit 0 }
+
+-- a page that a unit may show: data or junk, and no longer than there is room for
+unfoldable pub isShowable : Page → Bool
+isShowable g = (eqb (g .kind) 1 || eqb (g .kind) 2) && leb (g .len) pageLimit
 
 -- ---- requests
 
@@ -60,6 +64,14 @@ numberOf Fine = 0
 numberOf Shown = 0
 numberOf (Edge p) = 0
 numberOf (Refused n) = n
+
+-- the last number that a machine gives: a unit 1 to 8, the sequencer 2, 4 and 9, the holder 10 to 12 (docs/RULES.md, 10)
+abbrev pub lastRefusal : ℕ
+lastRefusal = 12
+
+-- no machine refuses by it
+unfoldable pub noRefusal : ℕ → Bool
+noRefusal n = eqb n 0 || ltb lastRefusal n
 
 -- ---- what an answer gives where it is the expected one, and what any other gives
 

@@ -8,13 +8,17 @@ use Rattle.client.specs.declared.Reply.{Reply}
 use Rattle.client.specs.declared.Phase.the-variants.{Reading}
 use Rattle.client.specs.declared.Client.{Client}
 use Rattle.client.specs.declared.turn.Turn.{Turn}
-use Rattle.client.specs.Message.{numberOf, plain, ifShown}
+use Rattle.client.specs.Message.{isShowable, numberOf, plain, ifShown}
 use Rattle.client.specs.Client.{inPhase}
-use Rattle.client.specs.Turn.{over, sends, otherwise}
+use Rattle.client.specs.Turn.{rests, over, sends, otherwise}
 
 -- asks u
 abbrev pub reads : Client → ℕ → Turn
 reads c u = sends (inPhase c (Reading u)) (plain (Unit u (Read (c .layout .epoch) (c .position))))
 
+-- a page that no unit shows never answers
+unfoldable pub pageTaken : Client → Page → Turn
+pageTaken c g = cond (isShowable g) (over c 0 g) (rests c)
+
 abbrev pub onRead : Client → Reply → Page → Turn
-onRead c a g = ifShown a (over c 0 g) (otherwise c (numberOf a))
+onRead c a g = ifShown a (pageTaken c g) (otherwise c (numberOf a))

@@ -58,10 +58,14 @@ worked (Sealing u e) c a g = onSealed c u e a
 worked (Offering p) c a g = onOffered c p a
 worked Starting c a g = onStarted c a
 
+-- and so does one that it goes by already
+unfoldable pub worksOn : Phase → Client → Reply → Page → Turn
+worksOn p c a g = cond (goodValue (c .layout)) (worked p c a g) (ends c 10)
+
 abbrev pub answered : Stage → Client → Response → Turn
 answered Idle c r = rests c
 answered Fetching c r = onFetched c (r .reply) (r .layout)
-answered (Working p) c r = worked p c (r .reply) (r .page)
+answered (Working p) c r = worksOn p c (r .reply) (r .page)
 
 -- "A request bears client, life and number; an answer to anything else is ignored"
 unfoldable pub awaited : ℕ → Client → Stamp → Bool

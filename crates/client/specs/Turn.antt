@@ -1,7 +1,7 @@
 -- What comes of a step at a client: it rests, a request is sent, or its operation ends (docs/RULES.md, 8.2).
 use Prim.Native.Nat.{ℕ, _+_}
 use mathlib.Core.Bool.{cond}
-use lib.Dec.{eqb, leb}
+use lib.Dec.{leb}
 use Rattle.num.specs.declared.Request.{Request}
 use Rattle.client.specs.declared.Page.{Page}
 use Rattle.client.specs.declared.Query.{Query}
@@ -9,7 +9,7 @@ use Rattle.client.specs.declared.Client.{Client}
 use Rattle.client.specs.declared.Act.the-variants.{Rests, Sends, Ends}
 use Rattle.client.specs.declared.Outcome.{Outcome}
 use Rattle.client.specs.declared.turn.Turn.{Turn}
-use Rattle.client.specs.Message.{noPage, noQuery}
+use Rattle.client.specs.Message.{noPage, noQuery, noRefusal}
 use Rattle.client.specs.Client.{lastNumber, idle}
 
 abbrev pub noOutcome : Outcome
@@ -57,6 +57,6 @@ sent c q = record { client = numbered c (next c); act = Sends (next c); query = 
 unfoldable pub sends : Client → Query → Turn
 sends c q = cond (leb lastNumber (c .used .0)) (ends c 19) (sent c q)
 
--- any other answer ends the operation with its number; one that has none never answers what was asked, and is ignored
+-- any other answer ends the operation with its number; one that has none, or one that no machine gives, never answers what was asked, and is ignored
 unfoldable pub otherwise : Client → ℕ → Turn
-otherwise c n = cond (eqb n 0) (rests c) (ends c n)
+otherwise c n = cond (noRefusal n) (rests c) (ends c n)

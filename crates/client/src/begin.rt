@@ -45,7 +45,7 @@ pub fn ready_answer(client: Client) -> u8
     )
 }
 
-// 18, 19, 2 or 3, and 0 where the operation begins in a yard of this shape.
+// 18, 19, 2, 3 or 10, and 0 where the operation begins in a yard of this shape.
 pub fn begin_answer(client: Client, job: Job, shape: u8) -> u8
     ensures { λ r. ⌜ r ≡ beginAnswer client job shape ⌝ }
 {

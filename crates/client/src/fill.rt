@@ -1,6 +1,6 @@
 // Fill: write junk at the head, or carry on what it holds; then on to the tail.
 ghost use mathlib.Core.Path.{_≡_};
-ghost use Rattle.client.specs.Fill.{fills, looks, fillsOn, notFilled, onFilled, onLooked};
+ghost use Rattle.client.specs.Fill.{fills, looks, fillsOn, notFilled, onFilled, pageCarried, onLooked};
 use crate::Ask;
 use crate::Client;
 use crate::Page;
@@ -12,6 +12,7 @@ use crate::message::number_of;
 use crate::turn::Turn;
 use crate::turn::ends;
 use crate::turn::otherwise;
+use crate::turn::rests;
 use crate::turn::sends;
 use crate::way::after_for;
 use crate::way::head_for;
@@ -80,12 +81,23 @@ pub(crate) fn on_filled(c: Client, unit: u8, reply: Reply) -> Turn
     fills_on(c, unit)
 }
 
-// What the head holds is carried instead of junk.
+// What the head holds is carried instead of junk; a page that no unit shows never answers.
+pub(crate) fn page_carried(c: Client, unit: u8, page: Page) -> Turn
+    ensures { λ r. ⌜ r ≡ pageCarried c unit page ⌝ }
+{
+    if page.is_showable() {
+        fills_on(c.carrying(page), unit)
+    } else {
+        rests(c)
+    }
+}
+
+// The head's answer to the look at it.
 pub(crate) fn on_looked(c: Client, unit: u8, reply: Reply, page: Page) -> Turn
     ensures { λ r. ⌜ r ≡ onLooked c unit reply page ⌝ }
 {
     let Reply::Shown = reply else {
         return otherwise(c, number_of(reply));
     };
-    fills_on(c.carrying(page), unit)
+    page_carried(c, unit, page)
 }

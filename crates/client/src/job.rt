@@ -4,7 +4,7 @@ ghost use Prim.Native.Nat.{_≤_};
 ghost use lib.ListN.{length, take};
 ghost use Rattle.layout.specs.Value.{padded};
 ghost use Rattle.client.specs.Message.{pageLimit, dataLimit};
-ghost use Rattle.client.specs.Job.{past, tooLong, positionFor, pageFor, changeFor, dataPage, jobAnswer};
+ghost use Rattle.client.specs.Job.{past, tooLong, tooManyDrops, positionFor, pageFor, changeFor, dataPage, jobAnswer};
 use crate::Change;
 use crate::Page;
 use crate::Work;
@@ -50,14 +50,31 @@ pub(crate) fn is_too_long(work: Work, len: u8, shape: u8) -> bool
     }
 }
 
-// 2 or 3 where the operation asks for what no unit of the yard's shape has, and 0 otherwise.
+// More units to drop than one reorganise may.
+pub(crate) fn has_too_many_drops(work: Work, count: u8) -> bool
+    ensures { λ r. ⌜ r ≡ tooManyDrops work count ⌝ }
+{
+    match work {
+        Work::Append => false,
+        Work::Read(_) => false,
+        Work::Fill(_) => false,
+        Work::Trim(_) => false,
+        Work::Prune(_) => false,
+        Work::Reorganise => Change::DROPS < size(count),
+    }
+}
+
+// 2 or 3 where the operation asks for what no unit of the yard's shape has, 10 where it drops too many units, and 0 otherwise.
 pub fn job_answer(job: Job, shape: u8) -> u8
     ensures { λ r. ⌜ r ≡ jobAnswer job shape ⌝ }
 {
     let work = job.work;
     let past = is_past(work);
     let long = is_too_long(work, job.len, shape);
-    pick(past, Answer::POSITION, pick(long, Answer::PAGE, 0))
+    let change = job.change;
+    let crowded = has_too_many_drops(work, change.count);
+    let last = pick(crowded, Answer::LAYOUT, 0);
+    pick(past, Answer::POSITION, pick(long, Answer::PAGE, last))
 }
 
 // The position an operation is about.

@@ -87,7 +87,7 @@ pub enum Work {
 // What a reorganise changes: units to drop, the first `count`, and new sets if wanted.
 pub struct Change {
     pub count: u8,
-    pub drops: [u8; 8],
+    pub drops: [u8; Change::DROPS],
     pub wish: Wish,
 }
 

@@ -1,6 +1,6 @@
 // What a client sends and what is handed back to it. An enum holds no array, so a page and a layout stand beside it.
 ghost use mathlib.Core.Path.{_≡_};
-ghost use Rattle.client.specs.Message.{noPage, noQuery, noResponse, junk, numberOf, plain, bearing, offering};
+ghost use Rattle.client.specs.Message.{noPage, noQuery, noResponse, noRefusal, junk, isShowable, numberOf, plain, bearing, offering};
 use crate::Ask;
 use crate::Page;
 use crate::Query;
@@ -10,6 +10,7 @@ use layout::Layout;
 use num::Epoch;
 use num::Position;
 use num::Request;
+use num::answer::Answer;
 
 impl Page {
     // Bytes that a page has room for.
@@ -45,6 +46,13 @@ impl Page {
             len: 0,
             bytes: [0u8; Page::ROOM],
         }
+    }
+
+    // Data or junk, and no longer than there is room for.
+    pub(crate) fn is_showable(self) -> bool
+        ensures { λ r. ⌜ r ≡ isShowable self ⌝ }
+    {
+        ((self.kind == Page::DATA) | (self.kind == Page::JUNK)) & (self.len <= Page::LARGE)
     }
 }
 
@@ -99,6 +107,13 @@ impl Response {
             layout,
         }
     }
+}
+
+// No machine refuses by it: units, sequencer and holder give 1 to 12.
+pub(crate) fn is_no_refusal(number: u8) -> bool
+    ensures { λ r. ⌜ r ≡ noRefusal number ⌝ }
+{
+    (number == 0) | (Answer::SUCCESSOR < number)
 }
 
 // The number of an answer (docs/RULES.md, 10): 0 for each that is no refusal.

@@ -1,6 +1,6 @@
 // Read: ask the tail.
 ghost use mathlib.Core.Path.{_≡_};
-ghost use Rattle.client.specs.Read.{reads, onRead};
+ghost use Rattle.client.specs.Read.{reads, pageTaken, onRead};
 use crate::Ask;
 use crate::Client;
 use crate::Page;
@@ -12,6 +12,7 @@ use crate::message::number_of;
 use crate::turn::Turn;
 use crate::turn::otherwise;
 use crate::turn::over;
+use crate::turn::rests;
 use crate::turn::sends;
 use num::answer::Answer;
 
@@ -28,6 +29,17 @@ pub(crate) fn reads(c: Client, unit: u8) -> Turn
     )
 }
 
+// The page is the outcome's; one that no unit shows never answers.
+pub(crate) fn page_taken(c: Client, page: Page) -> Turn
+    ensures { λ r. ⌜ r ≡ pageTaken c page ⌝ }
+{
+    if page.is_showable() {
+        over(c, Answer::FINE, page)
+    } else {
+        rests(c)
+    }
+}
+
 // The tail's answer; the outcome bears the epoch.
 pub(crate) fn on_read(c: Client, reply: Reply, page: Page) -> Turn
     ensures { λ r. ⌜ r ≡ onRead c reply page ⌝ }
@@ -35,5 +47,5 @@ pub(crate) fn on_read(c: Client, reply: Reply, page: Page) -> Turn
     let Reply::Shown = reply else {
         return otherwise(c, number_of(reply));
     };
-    over(c, Answer::FINE, page)
+    page_taken(c, page)
 }

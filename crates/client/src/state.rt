@@ -33,12 +33,12 @@ impl Change {
             count: 0,
             sets: [Chain {
                 count: 0,
-                units: [0u8; 4],
-            }; 16],
+                units: [0u8; Chain::UNITS],
+            }; Layout::SETS],
         };
         Change {
             count: 0,
-            drops: [0u8; 8],
+            drops: [0u8; Change::DROPS],
             wish,
         }
     }

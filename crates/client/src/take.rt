@@ -1,6 +1,6 @@
 // An answer comes to a client: what it does next.
 ghost use mathlib.Core.Path.{_≡_};
-ghost use Rattle.client.specs.Take.{goesOn, holds, onFetched, worked, answered, awaited, takes};
+ghost use Rattle.client.specs.Take.{goesOn, holds, onFetched, worked, worksOn, answered, awaited, takes};
 use crate::Client;
 use crate::Page;
 use crate::Phase;
@@ -90,6 +90,18 @@ pub(crate) fn worked(phase: Phase, c: Client, reply: Reply, page: Page) -> Turn
     }
 }
 
+// Under a layout that is not good the operation ends, whatever is answered.
+pub(crate) fn works_on(phase: Phase, c: Client, reply: Reply, page: Page) -> Turn
+    ensures { λ r. ⌜ r ≡ worksOn phase c reply page ⌝ }
+{
+    let fetched = c.layout;
+    if is_good(fetched) {
+        worked(phase, c, reply, page)
+    } else {
+        ends(c, Answer::LAYOUT)
+    }
+}
+
 // The answer to the outstanding request.
 pub(crate) fn answered(stage: Stage, c: Client, response: Response) -> Turn
     ensures { λ r. ⌜ r ≡ answered stage c response ⌝ }
@@ -100,7 +112,7 @@ pub(crate) fn answered(stage: Stage, c: Client, response: Response) -> Turn
     match stage {
         Stage::Idle => rests(c),
         Stage::Fetching => on_fetched(c, reply, held),
-        Stage::Working(phase) => worked(phase, c, reply, page),
+        Stage::Working(phase) => works_on(phase, c, reply, page),
     }
 }
 

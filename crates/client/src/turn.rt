@@ -6,6 +6,7 @@ use crate::Client;
 use crate::Outcome;
 use crate::Page;
 use crate::Query;
+use crate::message::is_no_refusal;
 use num::Epoch;
 use num::Position;
 use num::Request;
@@ -111,11 +112,11 @@ pub(crate) fn sends(client: Client, query: Query) -> Turn
     }
 }
 
-// Any other answer ends the operation with its number; one that has none never answers what was asked.
+// Any other answer ends the operation with its number; one that has none, or one that no machine gives, never answers what was asked.
 pub(crate) fn otherwise(client: Client, number: u8) -> Turn
     ensures { λ r. ⌜ r ≡ otherwise client number ⌝ }
 {
-    if number == 0 {
+    if is_no_refusal(number) {
         rests(client)
     } else {
         ends(client, number)

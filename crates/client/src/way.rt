@@ -53,7 +53,7 @@ pub(crate) fn unit_above(l: Layout, unit: u8) -> u8
 }
 
 // The plan with the first `count` units to drop.
-fn plan_dropping(held: Layout, drops: [u8; 8], count: u8, wish: Wish) -> Planned
+fn plan_dropping(held: Layout, drops: [u8; Change::DROPS], count: u8, wish: Wish) -> Planned
     ensures { λ r. ⌜ r ≡ plannedFor held (take count drops) wish ⌝ }
 {
     let n = size(count);

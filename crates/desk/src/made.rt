@@ -53,8 +53,8 @@ fn wish_for(drops: &[u8], sets: &[u8]) -> Wish
             count: 1,
             sets: [Chain {
                 count: 0,
-                units: [0u8; 4],
-            }; 16],
+                units: [0u8; Chain::UNITS],
+            }; Layout::SETS],
         }
     } else {
         wish_of(sets)

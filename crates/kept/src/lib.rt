@@ -13,14 +13,14 @@ use yard::step::step;
 pub struct Kept {
     pub yard: Yard,
     pub sequencer: Sequencer,
-    pub table: [Letter; 32],
+    pub table: [Letter; Yard::LETTERS],
 }
 
 // What a step answers, as `Stepped` says it, and the sequencer and the table afterwards.
 pub struct KeptStep {
     pub stepped: Stepped,
     pub sequencer: Sequencer,
-    pub table: [Letter; 32],
+    pub table: [Letter; Yard::LETTERS],
 }
 
 pub struct KeptMade {
@@ -47,7 +47,7 @@ pub fn fresh_kept(held: Layout, units: &mut [u8]) -> KeptMade
 {
     let mut seq = Sequencer::fresh();
     let none = Letter::blank();
-    let mut table = [none; 32];
+    let mut table = [none; Yard::LETTERS];
     let made = fresh(held, &mut seq, &mut table, units);
     let yard = made.yard;
     let kept = Kept {

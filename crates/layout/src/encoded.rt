@@ -117,7 +117,7 @@ fn units_used(l: Layout) -> u8
     let sets = l.sets;
     let mut n: u8 = 0;
     let mut u: u8 = 1;
-    while u <= 8 {
+    while u <= Layout::LAST_UNIT {
         n = n + pick(in_sets(sets, l.set_count, u), 1, 0);
         u += 1;
     }
@@ -132,7 +132,7 @@ fn push_units(e: Encoded, l: Layout) -> Encoded
     let sets = l.sets;
     let mut out = push(e, units_used(l));
     let mut u: u8 = 1;
-    while u <= 8 {
+    while u <= Layout::LAST_UNIT {
         out = push_if(out, in_sets(sets, l.set_count, u), u);
         u += 1;
     }

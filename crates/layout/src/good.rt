@@ -17,7 +17,7 @@ use num::bytes::size;
 fn good_unit(used: bool, low: u8, unit: u8) -> bool
     ensures { λ r. ⌜ r ≡ cond used (ltb low unit && leb unit unitLimit) (eqb unit 0) ⌝ }
 {
-    (used & ((low < unit) & (unit <= 8))) | (!used & (unit == 0))
+    (used & ((low < unit) & (unit <= Layout::LAST_UNIT))) | (!used & (unit == 0))
 }
 
 // A set of the layout, or a blank behind the last.
@@ -30,7 +30,7 @@ pub(crate) fn good_chain(used: bool, c: Chain) -> bool
     let second = good_unit(1 < n, units[0], units[1]);
     let third = good_unit(2 < n, units[1], units[2]);
     let fourth = good_unit(3 < n, units[2], units[3]);
-    first & second & third & fourth & (n <= 4) & ((used & (0 < n)) | (!used & (n == 0)))
+    first & second & third & fourth & (n <= Chain::MOST) & ((used & (0 < n)) | (!used & (n == 0)))
 }
 
 // Every set, and every blank behind them.
@@ -99,9 +99,9 @@ pub fn is_good(l: Layout) -> bool
     let first = l.ranges[0];
     (1 <= l.epoch.0)
         & (l.shape <= Layout::LARGE)
-        & (sets <= 16)
+        & (sets <= Layout::SETS)
         & (1 <= ranges)
-        & (ranges <= 8)
+        & (ranges <= Layout::RANGES)
         & (first.start.0 == 0)
         & good_chains(l)
         & good_ranges(l)

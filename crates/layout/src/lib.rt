@@ -17,7 +17,7 @@ pub mod write;
 // A set of units, rising: the first is the head, the last the tail.
 pub struct Chain {
     pub count: u8,
-    pub units: [u8; 4],
+    pub units: [u8; Chain::UNITS],
 }
 
 // From `start` on, positions go in turn to the next `sets` sets.
@@ -31,19 +31,22 @@ pub struct Layout {
     pub epoch: Epoch,
     pub shape: u8,
     pub set_count: u8,
-    pub sets: [Chain; 16],
+    pub sets: [Chain; Layout::SETS],
     pub range_count: u8,
-    pub ranges: [Range; 8],
+    pub ranges: [Range; Layout::RANGES],
 }
 
 // The new sets that are wanted: the first `count`. Those past the count are not looked at; for more than 16 there is no room.
 pub struct Wish {
     pub count: u8,
-    pub sets: [Chain; 16],
+    pub sets: [Chain; Layout::SETS],
 }
 
 impl Chain {
     pub const UNITS: usize = 4;
+
+    // The same, as a count.
+    pub const MOST: u8 = 4;
 }
 
 impl Layout {
@@ -70,13 +73,13 @@ impl Layout {
             set_count: 0,
             sets: [Chain {
                 count: 0,
-                units: [0u8; 4],
-            }; 16],
+                units: [0u8; Chain::UNITS],
+            }; Layout::SETS],
             range_count: 0,
             ranges: [Range {
                 start: Position(0),
                 sets: 0,
-            }; 8],
+            }; Layout::RANGES],
         }
     }
 }

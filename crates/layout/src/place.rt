@@ -72,7 +72,7 @@ pub(crate) fn holds(c: Chain, u: u8) -> bool
 }
 
 // Whether `u` is in one of the first `count` sets.
-pub(crate) fn in_sets(sets: [Chain; 16], count: u8, u: u8) -> bool
+pub(crate) fn in_sets(sets: [Chain; Layout::SETS], count: u8, u: u8) -> bool
     ensures { λ r. ⌜ r ≡ inSets u (map unitsIn (take count sets)) ⌝ }
 {
     let n = clip(count, Layout::SETS);
@@ -164,7 +164,7 @@ fn chain_at(l: Layout, p: Position) -> Chain
     } else {
         Chain {
             count: 0,
-            units: [0u8; 4],
+            units: [0u8; Chain::UNITS],
         }
     }
 }

@@ -46,7 +46,7 @@ fn shrunk(c: Chain, drops: &[u8]) -> Chain
 {
     let n = clip(c.count, Chain::UNITS);
     let old = c.units;
-    let mut units = [0u8; 4];
+    let mut units = [0u8; Chain::UNITS];
     let mut count: usize = 0;
     let mut i = 0;
     while i < n {
@@ -64,7 +64,7 @@ fn shrunk(c: Chain, drops: &[u8]) -> Chain
 }
 
 // Each set without the units to drop; a blank one stays blank.
-fn thin_sets(sets: [Chain; 16], drops: &[u8]) -> [Chain; 16]
+fn thin_sets(sets: [Chain; Layout::SETS], drops: &[u8]) -> [Chain; Layout::SETS]
     ensures { λ r. ⌜ r ≡ map (thinned (now (drops .entry))) sets ⌝ }
 {
     let mut out = sets;
@@ -79,7 +79,7 @@ fn thin_sets(sets: [Chain; 16], drops: &[u8]) -> [Chain; 16]
 }
 
 // The wanted sets behind the old ones, from `at` on.
-fn add_sets(old: [Chain; 16], at: usize, wish: Wish) -> [Chain; 16]
+fn add_sets(old: [Chain; Layout::SETS], at: usize, wish: Wish) -> [Chain; Layout::SETS]
     requires { ⌜ at + wish .count ≤ 16 ⌝ }
     ensures { λ r. ⌜ r ≡ stored old at (take (wish .count) (wish .sets)) ⌝ }
 {
@@ -95,7 +95,7 @@ fn add_sets(old: [Chain; 16], at: usize, wish: Wish) -> [Chain; 16]
 }
 
 // Whether dropping would empty one of the first `count` sets.
-fn empties(sets: [Chain; 16], count: u8, drops: &[u8]) -> bool
+fn empties(sets: [Chain; Layout::SETS], count: u8, drops: &[u8]) -> bool
     ensures { λ r. ⌜ r ≡ emptied (now (drops .entry)) (map unitsIn (take count sets)) ⌝ }
 {
     let n = clip(count, Layout::SETS);
@@ -141,7 +141,7 @@ fn wish_is_good(wish: Wish) -> bool
 }
 
 // One range more, its start open, where there are new sets for it.
-fn add_range(old: [Range; 8], at: usize, uses: u8) -> [Range; 8]
+fn add_range(old: [Range; Layout::RANGES], at: usize, uses: u8) -> [Range; Layout::RANGES]
     requires { ⌜ (0 < uses → at < 8) ⌝ }
     ensures { λ r. ⌜ r ≡ cond (ltb 0 uses) (set old at (record { start = record { 0 = 0 }; sets = uses })) old ⌝ }
 {

@@ -44,7 +44,7 @@ pub(crate) fn chain_from(b: &[u8], at: usize) -> Chain
 
 // Sets that were read, and where the bytes behind them start.
 pub(crate) struct Sets {
-    pub(crate) sets: [Chain; 16],
+    pub(crate) sets: [Chain; Layout::SETS],
     pub(crate) past: usize,
 }
 
@@ -69,8 +69,8 @@ pub(crate) fn sets_from(b: &[u8], at: usize, n: usize) -> Sets
     let mut s = Sets {
         sets: [Chain {
             count: 0,
-            units: [0u8; 4],
-        }; 16],
+            units: [0u8; Chain::UNITS],
+        }; Layout::SETS],
         past: at,
     };
     let mut i: usize = 0;
@@ -95,7 +95,7 @@ fn range_from(b: &[u8], at: usize) -> Range
 
 // Ranges that were read.
 struct Ranges {
-    ranges: [Range; 8],
+    ranges: [Range; Layout::RANGES],
 }
 
 // One range more, the `i`th.
@@ -117,7 +117,7 @@ fn ranges_from(b: &[u8], at: usize, n: usize) -> Ranges
         ranges: [Range {
             start: Position(0),
             sets: 0,
-        }; 8],
+        }; Layout::RANGES],
     };
     let mut past = at;
     let mut i: usize = 0;

@@ -76,8 +76,8 @@ fn no_wish() -> Wish
         count: 0,
         sets: [Chain {
             count: 0,
-            units: [0u8; 4],
-        }; 16],
+            units: [0u8; Chain::UNITS],
+        }; Layout::SETS],
     }
 }
 

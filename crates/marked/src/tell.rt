@@ -13,7 +13,7 @@ use num::Position;
 use num::answer::pick;
 use num::bytes::number_at;
 use num::bytes::wide;
-use unit::fresh::fresh;
+use unit::memory::Unit;
 use unit::prune::prune;
 use unit::read::read;
 use unit::seal::seal;
@@ -96,7 +96,7 @@ pub(crate) fn tell(mem: &mut [u8], asked: Ask) -> Told
     ensures { λ r. ⌜ IsTold (now (mem .entry)) asked r (now (mem .exit)) ⌝ }
 {
     match asked {
-        Ask::Fresh(n, shape) => plain(fresh(mem, n, shape)),
+        Ask::Fresh(n, shape) => plain(Unit::fresh(mem, n, shape)),
         Ask::Write(e, p, kind, size) => tell_write(mem, e, p, kind, size),
         Ask::Read(e, p) => tell_read(mem, e, p),
         Ask::Trim(e, p) => plain(trim(mem, e, p)),

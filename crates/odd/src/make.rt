@@ -15,14 +15,15 @@ use rule::Letter;
 use rule::Yard;
 use sequencer::Sequencer;
 use sequencer::start_step;
+use unit::memory::Unit;
 
 // 1: near their last life and their last request number.
-fn old_clients() -> [Client; 4] {
+fn old_clients() -> [Client; Yard::CLIENTS] {
     let used = Request(4_294_967_235);
     let mut client = Client::fresh();
     client.life = 65_534;
     client.used = used;
-    [client; 4]
+    [client; Yard::CLIENTS]
 }
 
 // 2: every unit is sealed near the last epoch.
@@ -32,8 +33,8 @@ fn seal_all(units: &mut [u8]) {
     }
     let mut i: usize = 0;
     while i < Yard::UNITS {
-        let start = i * 6168;
-        let end = start + 6168;
+        let start = i * Unit::SIZE;
+        let end = start + Unit::SIZE;
         unit::seal::seal(&mut units[start..end], Epoch(4_294_967_290));
         i += 1;
     }
@@ -109,7 +110,7 @@ fn offer(mut layout: Layout) -> Letter {
     }
 }
 
-fn odd_table(mut table: [Letter; 32], held: Layout, odd: u8) -> [Letter; 32] {
+fn odd_table(mut table: [Letter; Yard::LETTERS], held: Layout, odd: u8) -> [Letter; Yard::LETTERS] {
     if odd == 7 {
         let letter = offer(held);
         table[0] = letter;

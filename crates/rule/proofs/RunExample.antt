@@ -31,17 +31,17 @@ use Rattle.client.specs.declared.Reply.the-variants.{Held, Given, Fine, Shown, 
 use Rattle.client.specs.declared.Work.the-variants as work
 use Rattle.client.specs.declared.Change.{Change}
 use Rattle.client.specs.declared.state.Job.{Job}
-use Rattle.client.specs.Message.{dataLimit}
+use Rattle.client.specs.Message.{noRefusal, isShowable, dataLimit}
 use Rattle.client.specs.Client.{idle, inPhase, atPosition, carrying, holding, planning, jobOf, appendOf, reorganiseOf, noChange}
 use Rattle.client.specs.Turn.{outcomeOf, rests, over, ends, numbered, sends, otherwise}
 use Rattle.client.specs.Way.{headFor, tailFor, afterFor, unitAbove, planFor, startFor}
 use Rattle.client.specs.Append.{draws, writes, writesAt, onToken, writesOn, notAtHead, notLater, notWritten, onWritten}
-use Rattle.client.specs.Fill.{fills, looks, fillsOn, notFilled, onFilled, onLooked}
-use Rattle.client.specs.Read.{reads, onRead}
+use Rattle.client.specs.Fill.{pageCarried, fills, looks, fillsOn, notFilled, onFilled, onLooked}
+use Rattle.client.specs.Read.{pageTaken, reads, onRead}
 use Rattle.client.specs.Trim.{trims, trimsOn, onTrimmed}
 use Rattle.client.specs.Job.{dataPage}
 use Rattle.client.specs.Begin.{beginAnswer, withJob, beginTurn, restartAnswer, restarted}
-use Rattle.client.specs.Take.{goesOn, holds, onFetched, answered, awaited, takes}
+use Rattle.client.specs.Take.{goesOn, holds, onFetched, worksOn, answered, awaited, takes}
 use Rattle.client.specs.Reorganise.{seals, offers, allSealed, sealsOn, reorganises, larger, edgeTaken, onSealed, starts, onOffered, notStarted, onStarted}
 use Rattle.rule.specs.declared.Body.{Body}
 use Rattle.rule.specs.declared.Body.the-variants.{Asks, Answers}
@@ -222,7 +222,7 @@ letters =
     ∷ []
 
 pub letters-happen : Happens letters
-unfolding padded layOf valueOf zeros tidyChain tidyChains blankRanges tidy goodValue rising goodSet goodSets goodSpans firstAtZero used good placed setNumber setAt headOf tailOf after placeAnswer unitsAt fetchedFrom lookup insert keepFrom before retire written retired trimmedAt number position told sequencer-after idle sends otherwise dataLimit shapeFor writesAt writesOn notAtHead notLater notWritten fillsOn notFilled trimsOn beginTurn restarted holds awaited takes letters-without turned beginNumber begins served taken delivered delivers restartNumber restarts forgets step kindOf bytesOf pageOf shown asking fetching unitSays unitAfter serve freshUnits freshWorld mails story isPage hasBytes isGone unit-says unit-after report
+unfolding padded layOf valueOf zeros tidyChain tidyChains blankRanges tidy goodValue rising goodSet goodSets goodSpans firstAtZero used good placed setNumber setAt headOf tailOf after placeAnswer unitsAt fetchedFrom lookup insert keepFrom before retire written retired trimmedAt number position told sequencer-after idle sends otherwise dataLimit shapeFor writesAt writesOn notAtHead notLater notWritten fillsOn notFilled trimsOn beginTurn restarted holds worksOn isShowable pageTaken noRefusal pageCarried awaited takes letters-without turned beginNumber begins served taken delivered delivers restartNumber restarts forgets step kindOf bytesOf pageOf shown asking fetching unitSays unitAfter serve freshUnits freshWorld mails story isPage hasBytes isGone unit-says unit-after report
 letters-happen = refl
 
 -- ---- ranges
@@ -275,5 +275,5 @@ ranges =
     ∷ []
 
 pub ranges-happen : Happens ranges
-unfolding rising goodSet goodSets goodSpans firstAtZero used good _in?_ inSets usedFrom unitsOf padded layOf valueOf zeros tidyChain tidyChains blankRanges tidy goodValue placed setNumber setAt headOf tailOf after above placeAnswer unitsAt without badDrops emptied planAnswer planned lastStart newStart startAnswer firstFree goodChains reorganiseAnswer plannedFor isOpen openStart startSet settleAnswer settled settledFirst startedAt offerAnswer offeredTo fetchedFrom sublist keepsSets keepsSpans lawful lookup insert lastEnd edge written sealedAt number position told sequencer-after idle sends otherwise dataLimit shapeFor writesAt writesOn beginTurn holds awaited takes allSealed sealsOn reorganises larger edgeTaken notStarted letters-without turned beginNumber begins served taken delivered delivers step kindOf bytesOf pageOf edged asking fetching offeringTo unitSays unitAfter serve freshUnits freshWorld mails story isPage hasBytes isGone unit-says unit-after report
+unfolding rising goodSet goodSets goodSpans firstAtZero used good _in?_ inSets usedFrom unitsOf padded layOf valueOf zeros tidyChain tidyChains blankRanges tidy goodValue placed setNumber setAt headOf tailOf after above placeAnswer unitsAt without badDrops emptied planAnswer planned lastStart newStart startAnswer firstFree goodChains reorganiseAnswer plannedFor isOpen openStart startSet settleAnswer settled settledFirst startedAt offerAnswer offeredTo fetchedFrom sublist keepsSets keepsSpans lawful lookup insert lastEnd edge written sealedAt number position told sequencer-after idle sends otherwise dataLimit shapeFor writesAt writesOn beginTurn holds worksOn isShowable pageTaken noRefusal awaited takes allSealed sealsOn reorganises larger edgeTaken notStarted letters-without turned beginNumber begins served taken delivered delivers step kindOf bytesOf pageOf edged asking fetching offeringTo unitSays unitAfter serve freshUnits freshWorld mails story isPage hasBytes isGone unit-says unit-after report
 ranges-happen = refl

@@ -23,7 +23,7 @@ use Rattle.client.specs.declared.Page.{Page}
 use Rattle.client.specs.declared.Work.the-variants.{Append}
 use Rattle.client.specs.declared.state.Job.{Job}
 use Rattle.client.specs.Message.{dataLimit}
-use Rattle.client.specs.Job.{past, tooLong}
+use Rattle.client.specs.Job.{past, tooLong, tooManyDrops}
 use Rattle.client.specs.Begin.{beginTurn, giveUp, restarted}
 use Rattle.client.specs.Take.{takes}
 use Rattle.rule.specs.declared.Body.{Body}
@@ -50,8 +50,9 @@ pub begin-short : (w : World) (c : ℕ) (j : Job) → j .work ≡ Append → beg
 begin-short w c j is e =
     let shape = w .held .shape in
     let asked = begin-fine w c j e .1 in
-    let page = cond-zero (past (j .work)) 2 (cond (tooLong (j .work) (j .len) shape) 3 0) (omega arith) asked .1 in
-    let short : tooLong (j .work) (j .len) shape ≡ false = cond-zero (tooLong (j .work) (j .len) shape) 3 0 (omega arith) page .0 in
+    let last : ℕ = cond (tooManyDrops (j .work) (j .change .count)) 10 0 in
+    let page = cond-zero (past (j .work)) 2 (cond (tooLong (j .work) (j .len) shape) 3 last) (omega arith) asked .1 in
+    let short : tooLong (j .work) (j .len) shape ≡ false = cond-zero (tooLong (j .work) (j .len) shape) 3 last (omega arith) page .0 in
     let fits : ltb (dataLimit shape) (j .len) ≡ false = rw is at short in
     ltb-false (shapeFor shape .cap) (j .len) (rw (data-cap shape) at fits)
 

@@ -88,7 +88,7 @@ without-few i [] = omega arith
 without-few zero (l ∷ ls) = omega arith
 without-few (suc i) (l ∷ ls) = omega (arith, without-few i ls)
 
--- an operation that begins has room for its letter, and neither 2 nor 3 applies
+-- an operation that begins has room for its letter, and none of 2, 3 and 10 applies
 pub begin-fine : (w : World) (c : ℕ) (j : Job) → beginNumber w c j ≡ 0 → (length (w .letters) < 32) × (lowest (jobChecks j (w .held .shape)) ≡ 0)
 unfolding beginNumber
 begin-fine w c j e =

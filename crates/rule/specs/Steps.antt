@@ -110,7 +110,7 @@ turned w ls c t = record {
 
 -- ---- begin an operation
 
--- the yard's own checks 17, 18, 19, 16, then 2 and 3; 3 is that of the held layout's shape
+-- the yard's own checks 17, 18, 19, 16, then the job's 2, 3 and 10; 3 is that of the held layout's shape
 unfoldable pub beginNumber : World → ℕ → Job → ℕ
 beginNumber w c j =
     lowest (

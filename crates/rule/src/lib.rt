@@ -49,8 +49,8 @@ impl Letter {
 // The held layout, the clients, which units have stopped, and how many letters lie in the bag.
 pub struct Yard {
     pub held: Layout,
-    pub clients: [Client; 4],
-    pub stopped: [bool; 8],
+    pub clients: [Client; Yard::CLIENTS],
+    pub stopped: [bool; Yard::UNITS],
     pub count: u8,
 }
 
@@ -60,6 +60,11 @@ impl Yard {
     pub const CLIENTS: usize = 4;
 
     pub const LETTERS: usize = 32;
+
+    // The last client, and how many letters the bag holds, as counts.
+    pub const LAST_CLIENT: u8 = 4;
+
+    pub const MOST: u8 = 32;
 
     // Bytes of the eight unit memories.
     pub const SIZE: usize = 49_344;

@@ -114,7 +114,7 @@ fn change_at(b: &[u8], new: &[u8]) -> Change
     ensures { λ r. ⌜ r ≡ changeOf (setFront (drop 2 (now (b .entry)))) (setsSaid (now (new .entry))) ⌝ }
 {
     let count = byte_at(b, 2);
-    let mut drops = [0u8; 8];
+    let mut drops = [0u8; Change::DROPS];
     copy_counted(&mut drops, b);
     let wish = wish_of(new);
     Change { count, drops, wish }

@@ -122,7 +122,7 @@ fn put_append(out: &mut [u8], at: usize, client: u8, len: u8, bytes: [u8; Page::
 fn units_in(c: Chain) -> usize
     ensures { λ r. ⌜ (r ≡ length (take (c .count) (c .units))) × (r ≤ 4) ⌝ }
 {
-    size(pick(c.count <= 4, c.count, 4))
+    size(pick(c.count <= Chain::MOST, c.count, Chain::MOST))
 }
 
 // How many bytes new sets have, their count with them, and whether each has room for its units.
@@ -141,7 +141,7 @@ fn measure(wish: Wish) -> Measured
     let mut i: usize = 0;
     while i < n {
         let c = wish.sets[i];
-        small = small & (c.count <= 4);
+        small = small & (c.count <= Chain::MOST);
         total = total + (1 + units_in(c));
         i += 1;
     }

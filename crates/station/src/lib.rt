@@ -5,7 +5,7 @@ ghost use Rattle.unit.specs.Promises.{IsFresh, IsAnswered};
 ghost use Rattle.station.specs.Told.{epochOf, positionOf, IsTold, IsSealTold};
 use num::Epoch;
 use num::Position;
-use unit::fresh::fresh;
+use unit::memory::Unit;
 use unit::prune::prune;
 use unit::read::read;
 use unit::seal::seal;
@@ -16,7 +16,7 @@ use unit::write::write;
 pub extern "C" fn unit_fresh(mem: &mut [u8], number: u32, shape: u8) -> u8
     ensures { λ r. ⌜ IsFresh (now (mem .entry)) number shape r (now (mem .exit)) ⌝ }
 {
-    fresh(mem, number, shape)
+    Unit::fresh(mem, number, shape)
 }
 
 #[no_mangle]

@@ -24,6 +24,9 @@ impl Unit {
     // Units are numbered from 1 to it.
     pub const UNITS: u32 = 8;
 
+    // The same, as the byte that a memory has.
+    pub const LAST: u8 = 8;
+
     // Bytes of the header, and of the whole memory in either shape.
     pub const HEADER: usize = 24;
 
@@ -88,7 +91,7 @@ fn good_header(mem: &[u8], sh: Shape) -> bool
     let number = mem[0];
     let code = mem[1];
     (1 <= number)
-        & (number <= 8)
+        & (number <= Unit::LAST)
         & (code == sh.code)
         & (pair_at(mem, 2) == 0)
         & (word_at(mem, 8) <= Position::LIMIT)

@@ -20,7 +20,7 @@ use Rattle.sequencer.specs.Rules.{number, position, told, after as sequencer-af
 use Rattle.client.specs.declared.UnitAsk.the-variants as unit-ask
 use Rattle.client.specs.declared.Ask.the-variants as ask
 use Rattle.client.specs.declared.Outcome.{Outcome}
-use Rattle.client.specs.Message.{dataLimit, noPage}
+use Rattle.client.specs.Message.{isShowable, dataLimit, noPage}
 use Rattle.client.specs.declared.Work.the-variants.{Read}
 use Rattle.rule.specs.declared.Letter.{Letter}
 use Rattle.rule.specs.declared.Body.the-variants.{Asks}
@@ -30,7 +30,8 @@ use Rattle.client.specs.Client.{idle, jobOf, reorganiseOf, noChange}
 use Rattle.client.specs.Turn.{ends, sends}
 use Rattle.client.specs.Append.{writesAt, writesOn}
 use Rattle.client.specs.Begin.{beginTurn}
-use Rattle.client.specs.Take.{holds, awaited, takes}
+use Rattle.client.specs.Read.{pageTaken}
+use Rattle.client.specs.Take.{holds, worksOn, awaited, takes}
 use Rattle.client.specs.Reorganise.{allSealed, sealsOn, reorganises, larger, edgeTaken}
 use Rattle.rule.specs.World.{letterAt}
 use Rattle.rule.specs.Fresh.{freshUnits, freshWorld}
@@ -75,7 +76,7 @@ record Ran : Type 0 where
 
 -- by the rules, computed; the first read's end is `read-ends` of RunExample
 computed : Ran
-unfolding rising goodSet goodSets goodSpans firstAtZero used good _in?_ inSets usedFrom unitsOf padded layOf valueOf zeros tidyChain tidyChains blankRanges tidy goodValue placed setNumber setAt headOf tailOf after above placeAnswer unitsAt without badDrops emptied planned lastStart goodChains reorganiseAnswer plannedFor isOpen settleAnswer settled settledFirst startedAt offerAnswer offeredTo fetchedFrom sublist keepsSets keepsSpans lawful lookup insert lastEnd edge written sealedAt number position told sequencer-after idle sends dataLimit shapeFor writesAt writesOn beginTurn holds awaited takes allSealed sealsOn reorganises larger edgeTaken letters-without turned beginNumber begins served taken delivered delivers step kindOf bytesOf pageOf shown edged asking fetching offeringTo unitSays unitAfter serve freshUnits freshWorld worldBy isPage hasBytes isGone unit-says unit-after report
+unfolding rising goodSet goodSets goodSpans firstAtZero used good _in?_ inSets usedFrom unitsOf padded layOf valueOf zeros tidyChain tidyChains blankRanges tidy goodValue placed setNumber setAt headOf tailOf after above placeAnswer unitsAt without badDrops emptied planned lastStart goodChains reorganiseAnswer plannedFor isOpen settleAnswer settled settledFirst startedAt offerAnswer offeredTo fetchedFrom sublist keepsSets keepsSpans lawful lookup insert lastEnd edge written sealedAt number position told sequencer-after idle sends dataLimit shapeFor writesAt writesOn beginTurn holds worksOn isShowable pageTaken awaited takes allSealed sealsOn reorganises larger edgeTaken letters-without turned beginNumber begins served taken delivered delivers step kindOf bytesOf pageOf shown edged asking fetching offeringTo unitSays unitAfter serve freshUnits freshWorld worldBy isPage hasBytes isGone unit-says unit-after report
 computed = record {
   first-reached = record {
     earlier = all-of;

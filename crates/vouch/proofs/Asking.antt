@@ -19,7 +19,7 @@ use Rattle.client.specs.declared.Work.the-variants as work
 use Rattle.client.specs.declared.state.Job.{Job}
 use Rattle.client.specs.declared.Client.{Client}
 use Rattle.client.specs.Message.{pageLimit, plain}
-use Rattle.client.specs.Job.{past, tooLong, jobChecks, positionFor, pageFor, dataPage}
+use Rattle.client.specs.Job.{past, tooLong, tooManyDrops, jobChecks, positionFor, pageFor, dataPage}
 use Rattle.client.specs.Begin.{readyChecks, withJob, beginTurn}
 use Rattle.client.proofs.Turns.{begin-cases}
 use Rattle.rule.specs.declared.Step.the-variants.{Begin}
@@ -156,7 +156,7 @@ ready : (w : World) (c : ℕ) (j : Job) → beginNumber w c j ≡ 0 → Ready w 
 unfolding beginNumber
 ready w c j e =
     let called = cond-zero (not (isClient c)) 17 (lowest (readyChecks (clientAt w c) ++ (16 if leb letterLimit (length (w .letters)) ∷ jobChecks j (w .held .shape)))) (omega arith) e in
-    let asked = cond-zero (past (j .work)) 2 (cond (tooLong (j .work) (j .len) (w .held .shape)) 3 0) (omega arith) (begin-fine w c j e .1) in
+    let asked = cond-zero (past (j .work)) 2 (cond (tooLong (j .work) (j .len) (w .held .shape)) 3 (cond (tooManyDrops (j .work) (j .change .count)) 10 0)) (omega arith) (begin-fine w c j e .1) in
     record { is-client = not-false (isClient c) (called .0); near = asked .0 }
 
 or-then : {A B C : Type 0} → Or A B → (B → C) → Or A C

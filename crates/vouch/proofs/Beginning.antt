@@ -20,7 +20,7 @@ use Rattle.client.specs.Message.{noPage, plain}
 use Rattle.client.specs.declared.Ask.the-variants.{Fetch}
 use Rattle.client.specs.Client.{busy, holding, lastNumber}
 use Rattle.client.specs.Turn.{numbered, next, sent}
-use Rattle.client.specs.Job.{past, tooLong}
+use Rattle.client.specs.Job.{past, tooLong, tooManyDrops}
 use Rattle.client.specs.Begin.{beginAnswer, withJob, beginTurn}
 use Rattle.client.specs.Take.{goesOn, answered}
 use Rattle.client.proofs.Turns.{begin-cases, held-cases, sends-sent}
@@ -44,6 +44,7 @@ pub record Ready (w : World) (c : ℕ) : Type 0 where
 pub record Fit (j : Job) (shape : ℕ) : Type 0 where
   pub below : past (j .work) ≡ false
   pub short : tooLong (j .work) (j .len) shape ≡ false
+  pub few-drops : tooManyDrops (j .work) (j .change .count) ≡ false
 
 module _ (w : World) (c : ℕ) (ready : Ready w c) (j : Job) (fit : Fit j (w .held .shape)) where
   abbrev x : Client
@@ -63,14 +64,16 @@ module _ (w : World) (c : ℕ) (ready : Ready w c) (j : Job) (fit : Fit j (w .he
       ∙ (pass _ _ (leb lastNumber (x .used .0)) left
       ∙ (pass _ _ (leb 32 (length (w .letters))) (lt-leb 32 (length (w .letters)) (omega (arith, ready .few)))
       ∙ (pass _ _ (past (j .work)) (fit .below)
-      ∙ pass _ _ (tooLong (j .work) (j .len) (w .held .shape)) (fit .short)))))
+      ∙ (pass _ _ (tooLong (j .work) (j .len) (w .held .shape)) (fit .short)
+      ∙ pass _ _ (tooManyDrops (j .work) (j .change .count)) (fit .few-drops))))))
 
   answer-none : beginAnswer x j (w .held .shape) ≡ 0
   answer-none =
       pass _ _ (busy (x .stage)) not-busy
       ∙ (pass _ _ (leb lastNumber (x .used .0)) left
       ∙ (pass _ _ (past (j .work)) (fit .below)
-      ∙ pass _ _ (tooLong (j .work) (j .len) (w .held .shape)) (fit .short)))
+      ∙ (pass _ _ (tooLong (j .work) (j .len) (w .held .shape)) (fit .short)
+      ∙ pass _ _ (tooManyDrops (j .work) (j .change .count)) (fit .few-drops))))
 
   -- the client with its operation
   abbrev pub started : Client

@@ -16,7 +16,7 @@ use Rattle.client.specs.declared.Stage.the-variants.{Idle}
 use Rattle.client.specs.declared.state.Job.{Job}
 use Rattle.client.specs.Client.{busy, fresh, lastNumber}
 use Rattle.client.specs.Turn.{numbered, next}
-use Rattle.client.specs.Job.{past, tooLong, jobChecks}
+use Rattle.client.specs.Job.{past, tooLong, tooManyDrops, jobChecks}
 use Rattle.client.specs.Begin.{readyChecks, withJob, beginTurn}
 use Rattle.rule.specs.declared.Step.the-variants.{Begin}
 use Rattle.rule.specs.World.{World, isClient, letterLimit, clientAt}
@@ -41,8 +41,10 @@ lets w c j four e =
     let b = cond-zero (busy (x .stage)) 18 (lowest ((19 if leb lastNumber (x .used .0) ∷ []) ++ rest)) (omega arith) (a .1) in
     let d = cond-zero (leb lastNumber (x .used .0)) 19 (lowest rest) (omega arith) (b .1) in
     let few = begin-fine w c j e in
-    let p = cond-zero (past (j .work)) 2 (cond (tooLong (j .work) (j .len) (w .held .shape)) 3 0) (omega arith) (few .1) in
-    let q = cond-zero (tooLong (j .work) (j .len) (w .held .shape)) 3 0 (omega arith) (p .1) in
+    let last : ℕ = cond (tooManyDrops (j .work) (j .change .count)) 10 0 in
+    let p = cond-zero (past (j .work)) 2 (cond (tooLong (j .work) (j .len) (w .held .shape)) 3 last) (omega arith) (few .1) in
+    let q = cond-zero (tooLong (j .work) (j .len) (w .held .shape)) 3 last (omega arith) (p .1) in
+    let r = cond-zero (tooManyDrops (j .work) (j .change .count)) 10 0 (omega arith) (q .1) in
     record {
       ready = record {
         is-client = not-false (isClient c) (a .0);
@@ -51,7 +53,7 @@ lets w c j four e =
         is-idle = idle-so (x .stage) (busy-or-idle (x .stage)) (b .0);
         number-left = leb-false lastNumber (x .used .0) (d .0);
       };
-      fit = record { below = p .0; short = q .0 };
+      fit = record { below = p .0; short = q .0; few-drops = r .0 };
     }
   where
     idle-so : (st : Stage) → Or (busy st ≡ true) (st ≡ Idle) → busy st ≡ false → st ≡ Idle

@@ -17,7 +17,7 @@ use Rattle.client.specs.declared.Ask.the-variants as ask
 use Rattle.client.specs.Client.{inPhase}
 use Rattle.client.specs.Turn.{outcomeOf}
 use Rattle.client.specs.Way.{afterFor, unitAbove}
-use Rattle.client.proofs.Turns.{trimmed-cases, pruned-cases}
+use Rattle.client.proofs.Turns.{page-cases, trimmed-cases, pruned-cases}
 use Rattle.history.specs.Words.{UnitNo, Pos, Answer}
 use Rattle.history.specs.Words.Answer.{shows}
 use Rattle.history.specs.Maps.{Has}
@@ -41,7 +41,7 @@ use Rattle.vouch.proofs.Meaning.{Saw, Fetched, Walking, TrimmingOk, Pru
 use Rattle.vouch.proofs.Meaning.AskOk.{look-ok, trim-ok, prune-ok}
 use Rattle.vouch.proofs.Meaning.Waits.{waits-read, waits-trim, waits-prune}
 use Rattle.vouch.proofs.Turns.{TurnOk, other-quiet, quiet-ok, ends-ok, sends-ok, otherwise-ok}
-use Rattle.vouch.proofs.Turns.TurnOk.{over-ok}
+use Rattle.vouch.proofs.Turns.TurnOk.{rests-ok, over-ok}
 use Rattle.vouch.proofs.Turns.Other.{is-trim, is-prune}
 use Rattle.vouch.proofs.GoodMap.{epoch-of}
 use Rattle.vouch.proofs.Walking.{is-good, walk-next, walk-vouches, look-vouches, prune-vouches}
@@ -130,7 +130,7 @@ module _ {h : History} (run : Run h) (c : Client) (u : ℕ) where
     }
 
     pub read-shown : (x : PageValue) → Saw h u (c .layout .epoch .0) (c .position .0) (shows (carried x)) → TurnOk h c (onRead c Shown x)
-    read-shown x saw = over-ok c 0 x refl refl (returned 0 x saw only)
+    read-shown x saw = page-cases (TurnOk h c) c x (λ fits. over-ok c 0 x refl refl (returned 0 x saw only)) (λ misfit. rests-ok)
       where
         only : (s : Answer) → Returns (outcomeOf c 0 x) s → s ≡ shows (carried x)
         only s (returns-page e) = refl

@@ -14,7 +14,7 @@ use Rattle.client.specs.declared.UnitAsk.the-variants as unit-ask
 use Rattle.client.specs.declared.Ask.the-variants as ask
 use Rattle.client.specs.Client.{inPhase, carrying}
 use Rattle.client.specs.Way.{headFor, afterFor}
-use Rattle.client.proofs.Turns.{filled-cases, unfilled-cases}
+use Rattle.client.proofs.Turns.{filled-cases, unfilled-cases, look-cases}
 use Rattle.history.specs.Words.{UnitNo, Pos, Epoch, Page}
 use Rattle.history.specs.Words.Answer.{shows}
 use Rattle.history.specs.Maps.{Map}
@@ -98,19 +98,22 @@ module _ {h : History} (run : Run h) (c : Client) (u : ℕ) where
   module _ (ok : LookingOk h (c .work) (c .layout) (c .position .0) u) where
     -- it saw the head's page, and carries it on
     pub look-shown : (x : PageValue) → Saw h u (c .layout .epoch .0) (c .position .0) (shows (carried x)) → TurnOk h c (onLooked c u Shown x)
-    look-shown x saw =
-        let mk = saw-mark run saw in
-        filled run c (carrying c x) refl refl refl u (record {
-          filled = ok .filled;
-          is-fill = ok .is-fill;
-          walk = record {
-            fetched = ok .fetched;
-            low = ok .low;
-            serves = ok .serves;
-            behind = λ v serves lt. absurd (omega (arith, ok .is-head v serves));
-          };
-          asked = mark-asked run (mk .marked);
-        }) mk
+    look-shown x saw = look-cases (TurnOk h c) c u x (λ fits. carries) (λ misfit. rests-ok)
+      where
+        carries : TurnOk h c (fillsOn (carrying c x) u)
+        carries =
+            let mk = saw-mark run saw in
+            filled run c (carrying c x) refl refl refl u (record {
+              filled = ok .filled;
+              is-fill = ok .is-fill;
+              walk = record {
+                fetched = ok .fetched;
+                low = ok .low;
+                serves = ok .serves;
+                behind = λ v serves lt. absurd (omega (arith, ok .is-head v serves));
+              };
+              asked = mark-asked run (mk .marked);
+            }) mk
 
     pub look-refused : (k : ℕ) (x : PageValue) → TurnOk h c (onLooked c u (Refused k) x)
     look-refused k x = otherwise-ok k (λ not-fine. other-quiet (is-fill (ok .is-fill)))

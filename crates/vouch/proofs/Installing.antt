@@ -1,6 +1,7 @@
 -- The end of a reorganise with no other step between: offer and start, and it is done.
 -- Rests on Exchange and Forward.
 use mathlib.Core.Path.{_≡_, refl, ap, _∙_}
+use mathlib.Core.Bool.{true}
 use mathlib.Core.List.{List, []}
 use Prim.Native.Nat.{ℕ, _+_, _≤_, _<_}
 use native.Mathlib.Omega.{arith}
@@ -11,6 +12,7 @@ use Rattle.num.specs.declared.Request.{Request}
 use Rattle.layout.specs.declared.Layout.{Layout}
 use Rattle.layout.specs.declared.plan.Started.{Started}
 use Rattle.layout.specs.declared.holder.Offered.{Offered}
+use Rattle.layout.specs.Value.{goodValue}
 use Rattle.layout.specs.Plan.{startedAt}
 use Rattle.unit.specs.State.{State}
 use Rattle.sequencer.specs.declared.Sequencer.{Sequencer}
@@ -27,7 +29,7 @@ use Rattle.client.specs.Client.{inPhase, planning, idle, lastNumber}
 use Rattle.client.specs.Turn.{numbered, next, sends, over}
 use Rattle.client.specs.Reorganise.{offers, allSealed, starts}
 use Rattle.client.specs.Take.{answered}
-use Rattle.client.proofs.Turns.{start-cases}
+use Rattle.client.proofs.Turns.{start-cases, works-good}
 use Rattle.rule.specs.World.{World}
 use Rattle.rule.specs.Serve.{telling, bare, withSequencer, asking, offeringTo, serve}
 use Rattle.rule.specs.Steps.{Done}
@@ -69,7 +71,7 @@ module _ (w : World) (c : ℕ) (sound : Sound w) (may : Conditions w c) where
 
   -- ---- the start
 
-  module _ (us : List State) (y : Client) (p : Position) (on : UnitsOn w us) (plans : y .plan ≡ plan) (few : p .0 ≤ limit) (left : y .used .0 + 3 ≤ lastNumber) where
+  module _ (us : List State) (y : Client) (p : Position) (on : UnitsOn w us) (plans : y .plan ≡ plan) (under : goodValue (y .layout) ≡ true) (few : p .0 ≤ limit) (left : y .used .0 + 3 ≤ lastNumber) where
     abbrev y₁ : Client
     y₁ = inPhase y Starting
 
@@ -94,7 +96,7 @@ module _ (w : World) (c : ℕ) (sound : Sound w) (may : Conditions w c) where
         }
 
     start-taken : answered (y₁ .stage) (numbered y₁ (next y₁)) (bare Fine) ≡ over (numbered y₁ (next y₁)) 0 noPage
-    start-taken = refl
+    start-taken = works-good (numbered y₁ (next y₁)) Starting Fine noPage under
 
     start-left : y₁ .used .0 < lastNumber
     start-left = omega (arith, left)
@@ -127,7 +129,7 @@ module _ (w : World) (c : ℕ) (sound : Sound w) (may : Conditions w c) where
 
   -- ---- the offer
 
-  module _ (us : List State) (y : Client) (p : Position) (on : UnitsOn w us) (plans : y .plan ≡ plan) (few : p .0 ≤ limit) (left : y .used .0 + 4 ≤ lastNumber) where
+  module _ (us : List State) (y : Client) (p : Position) (on : UnitsOn w us) (plans : y .plan ≡ plan) (under : goodValue (y .layout) ≡ true) (few : p .0 ≤ limit) (left : y .used .0 + 4 ≤ lastNumber) where
     abbrev y₂ : Client
     y₂ = inPhase (planning y plan) (Offering p)
 
@@ -148,7 +150,7 @@ module _ (w : World) (c : ℕ) (sound : Sound w) (may : Conditions w c) where
     x₂ = numbered y₂ (next y₂)
 
     offer-taken : answered (y₂ .stage) x₂ (bare Fine) ≡ starts x₂ p
-    offer-taken = refl
+    offer-taken = works-good x₂ (Offering p) Fine noPage under
 
     offer-left : y₂ .used .0 < lastNumber
     offer-left = omega (arith, left)
@@ -162,11 +164,11 @@ module _ (w : World) (c : ℕ) (sound : Sound w) (may : Conditions w c) where
     pub offer-comes : Comes us (allSealed y p) 2
     unfolding exchanges
     offer-comes = record {
-      end = last-done us x₂ p on plan-after few start-left-after;
+      end = last-done us x₂ p on plan-after under few start-left-after;
       run =
           as-turn w c (w .letters) offers-so
           (sends-on w c (w .letters) y₂ (offering plan) offer-left
           (exchange-on w c (w .letters) (may .is-client) (sound .four-clients) (may .few-letters) offer-asked
-          (as-turn w c (w .letters) offer-taken (start-goes us x₂ p on plan-after few start-left-after))));
-      well = start-well us x₂ p on plan-after few start-left-after;
+          (as-turn w c (w .letters) offer-taken (start-goes us x₂ p on plan-after under few start-left-after))));
+      well = start-well us x₂ p on plan-after under few start-left-after;
     }

@@ -24,7 +24,7 @@ use Rattle.client.specs.declared.Work.the-variants.{Append, Read}
 use Rattle.client.specs.declared.Stage.the-variants.{Idle}
 use Rattle.client.specs.declared.state.Job.{Job}
 use Rattle.client.specs.Client.{idle, jobOf, reorganiseOf, noChange}
-use Rattle.client.specs.Message.{dataLimit}
+use Rattle.client.specs.Message.{isShowable, dataLimit}
 use Rattle.rule.specs.declared.Step.{Step}
 use Rattle.rule.specs.declared.Step.the-variants.{Drop, Stop, GiveUp}
 use Rattle.rule.specs.World.{isUnit, running, clientAt}
@@ -33,7 +33,8 @@ use Rattle.rule.specs.Serve.{kindOf, bytesOf, pageOf, shown, edged, asking, fet
 use Rattle.client.specs.Turn.{ends, sends}
 use Rattle.client.specs.Append.{writesAt, writesOn}
 use Rattle.client.specs.Begin.{beginTurn, giveUp}
-use Rattle.client.specs.Take.{holds, awaited, takes}
+use Rattle.client.specs.Read.{pageTaken}
+use Rattle.client.specs.Take.{holds, worksOn, awaited, takes}
 use Rattle.client.specs.Reorganise.{allSealed, sealsOn, reorganises, larger, edgeTaken}
 use Rattle.rule.specs.Fresh.{freshUnits, freshWorld}
 use Rattle.history.specs.Words.Page.{bytes}
@@ -93,7 +94,7 @@ record Ran : Type 0 where
 
 -- by the rules, computed
 computed : Ran
-unfolding rising goodSet goodSets goodSpans firstAtZero used good _in?_ inSets usedFrom unitsOf padded layOf valueOf zeros tidyChain tidyChains blankRanges tidy goodValue placed setNumber setAt headOf tailOf after above placeAnswer unitsAt without badDrops emptied planned lastStart goodChains reorganiseAnswer plannedFor isOpen settleAnswer settled settledFirst startedAt offerAnswer offeredTo fetchedFrom sublist keepsSets keepsSpans lawful lookup insert lastEnd edge written sealedAt number position told sequencer-after idle sends dataLimit shapeFor writesAt writesOn beginTurn giveUp holds awaited takes allSealed sealsOn reorganises larger edgeTaken letters-without turned beginNumber begins served taken delivered delivers drops-letter stops givesUp step kindOf bytesOf pageOf shown edged asking fetching offeringTo unitSays unitAfter serve freshUnits freshWorld worldBy stoppedFrom isPage hasBytes isGone unit-says unit-after report
+unfolding rising goodSet goodSets goodSpans firstAtZero used good _in?_ inSets usedFrom unitsOf padded layOf valueOf zeros tidyChain tidyChains blankRanges tidy goodValue placed setNumber setAt headOf tailOf after above placeAnswer unitsAt without badDrops emptied planned lastStart goodChains reorganiseAnswer plannedFor isOpen settleAnswer settled settledFirst startedAt offerAnswer offeredTo fetchedFrom sublist keepsSets keepsSpans lawful lookup insert lastEnd edge written sealedAt number position told sequencer-after idle sends dataLimit shapeFor writesAt writesOn beginTurn giveUp holds worksOn isShowable pageTaken awaited takes allSealed sealsOn reorganises larger edgeTaken letters-without turned beginNumber begins served taken delivered delivers drops-letter stops givesUp step kindOf bytesOf pageOf shown edged asking fetching offeringTo unitSays unitAfter serve freshUnits freshWorld worldBy stoppedFrom isPage hasBytes isGone unit-says unit-after report
 computed = record {
   yard-left = record {
     nobody = refl;

@@ -5,7 +5,7 @@ use mathlib.Core.Bool.{true}
 use mathlib.Core.List.{List, [], _∷_}
 use Prim.Native.Nat.{ℕ, suc, _+_, _-_, _≤_, _<_}
 use native.Mathlib.Omega.{arith}
-use borrow.Author.Tests.{leb-true, lt-leb}
+use borrow.Author.Tests.{leb-true, lt-leb, le-ltb}
 use lib.Dec.{leb}
 use lib.ListN.{length, length-set, length-append}
 use lib.Seq.{getD-set-same}
@@ -27,6 +27,8 @@ use Rattle.unit.specs.declared.shape.Shape.{Shape}
 use Rattle.unit.specs.State.{State}
 use Rattle.unit.specs.Unit.{Report, says, report}
 use Rattle.unit.specs.Unit.Request.{read as unit-read}
+use Rattle.unit.specs.Memory.{valid}
+use Rattle.unit.proofs.Shapes.{sized}
 use Rattle.unit.proofs.Marks.{ReadTells, read-tells}
 use Rattle.unit.proofs.Marks.ReadTells.{read-position, read-sealed, read-trimmed, read-unwritten, read-page}
 use Rattle.num.specs.declared.Request.{Request}
@@ -35,7 +37,8 @@ use Rattle.client.specs.declared.turn.Turn.{Turn}
 use Rattle.client.specs.declared.state.Job.{Job}
 use Rattle.client.specs.declared.Work.the-variants.{Reorganise}
 use Rattle.client.specs.declared.Outcome.{Outcome}
-use Rattle.client.specs.Client.{fresh, holding, planning, idle, lastNumber}
+use Rattle.client.specs.Client.{fresh, holding, planning, idle, dropLimit, lastNumber}
+use Rattle.client.specs.Message.{isShowable}
 use Rattle.client.specs.Turn.{numbered}
 use Rattle.client.specs.Turn.{ends as endsWith}
 use Rattle.client.specs.Begin.{withJob}
@@ -45,6 +48,7 @@ use Rattle.client.specs.Take.{goesOn}
 use Rattle.client.proofs.Clients.{idle-used, idle-stage}
 use Rattle.client.proofs.Turns.{plan-cases}
 use Rattle.rule.specs.World.{World, shapeUnder, running, clientAt, unitAt}
+use Rattle.rule.specs.Serve.{pageOf}
 use Rattle.rule.specs.Steps.{Done, step}
 use Rattle.vouch.specs.LastSentence.{Goes, begin, exchanges, newLayout, unitCount, reorganising, Conditions, DropsStopped, tailIn, tailAsked, tailSays, tailShows, Answering, ReadsTail, Answerable}
 use Rattle.vouch.specs.LastSentence.Answering.{page, trimmed, unwritten}
@@ -52,6 +56,7 @@ use Rattle.vouch.proofs.Drops.{any-plan}
 use Rattle.vouch.proofs.Exchange.{yard, as-turn}
 use Rattle.vouch.proofs.Beginning.{Ready, Fit, fetched, begin-fetch}
 use Rattle.vouch.proofs.Forward.{Sound, offered, offered-good, offered-next, offered-lay, units, units-work, walk-all, Kept, units-at-first}
+use Rattle.vouch.proofs.PageValues.{read-showable}
 use Rattle.vouch.proofs.Reread.{shownBy, ReadGoes, read-goes}
 use Rattle.vouch.proofs.Installing.{EndsWell, Comes}
 use Rattle.vouch.proofs.Reorganising.{requests, OnWay, seals-come}
@@ -95,7 +100,7 @@ module _ (w : World) (c : ℕ) (sound : Sound w) (may : Conditions w c) (j : Job
   job = record { work = Reorganise; len = j .len; bytes = j .bytes; change = j .change }
 
   pub fit : Fit job (w .held .shape)
-  fit = record { below = refl; short = refl }
+  fit = record { below = refl; short = refl; few-drops = le-ltb dropLimit (j .change .count) (drops .drops-few) }
 
   -- ---- the reorganise
 
@@ -193,8 +198,18 @@ module _ (w : World) (c : ℕ) (sound : Sound w) (may : Conditions w c) (j : Job
         let range = rising-within 0 us t (units-rise (newLayout w .sets)) tail-inside in
         well .units-on .kept t (omega (arith, range .0)) (range .1)
 
-    pub read : ReadGoes W c ready-again p below (offered-good w c sound may) (subst (λ u. running (w .stopped) u ≡ true) (sym tail-same) tail-works) numbers-left
-    read = read-goes W c ready-again p below (offered-good w c sound may) (subst (λ u. running (w .stopped) u ≡ true) (sym tail-same) tail-works) numbers-left
+    pub tail-runs : running (w .stopped) (tailOf (setAt (layOf plan) (p .0))) ≡ true
+    tail-runs = subst (λ u. running (w .stopped) u ≡ true) (sym tail-same) tail-works
+
+    -- where it says 0, it shows a page
+    pub tail-page : says (shapeUnder plan) (unitAt W (tailOf (setAt (layOf plan) (p .0)))) (unit-read (plan .epoch) p) ≡ 0 →
+        isShowable (pageOf (report (shapeUnder plan) (unitAt W (tailOf (setAt (layOf plan) (p .0)))) (unit-read (plan .epoch) p) .page)) ≡ true
+    tail-page =
+        let fits = subst (λ u. valid (shapeUnder (w .held)) (unitAt W u) ≡ true) (sym tail-same) (tail-kept .is-valid) in
+        read-showable (shapeUnder plan) (shapeUnder (w .held)) (unitAt W (tailOf (setAt (layOf plan) (p .0)))) (plan .epoch) p fits (sized (w .held .shape) .page)
+
+    pub read : ReadGoes W c ready-again p below (offered-good w c sound may) tail-runs numbers-left tail-page
+    read = read-goes W c ready-again p below (offered-good w c sound may) tail-runs numbers-left tail-page
 
     abbrev e : ℕ
     e = newLayout w .epoch

@@ -14,7 +14,6 @@ use Rattle.unit.specs.Unit.{freshUnit}
 use Rattle.sequencer.specs.declared.Sequencer.{Sequencer}
 use Rattle.client.specs.declared.Client.{Client}
 use Rattle.client.specs.declared.Stage.{Stage}
-use Rattle.client.specs.declared.Phase.the-variants.{Drawing, Writing, Reading, Filling, Looking, Trimming, Pruning, Sealing, Offering, Starting}
 use Rattle.client.specs.declared.Stage.the-variants.{Idle, Fetching, Working}
 use Rattle.client.specs.Client.{fresh}
 use Rattle.rule.specs.declared.Letter.{Letter}
@@ -27,6 +26,7 @@ use Rattle.vouch.specs.Runs.{Move, Moves, result, world, worldBy}
 use Rattle.vouch.specs.Runs.Moves.{none, _▸_}
 use Rattle.vouch.specs.Lending.{lent, stepped, Lends}
 use Rattle.vouch.proofs.Meaning.{StageOk}
+use Rattle.vouch.proofs.Walking.{phase-good}
 use Rattle.vouch.proofs.Coming.{come}
 use Rattle.vouch.proofs.Numbered.{tidy}
 
@@ -45,16 +45,7 @@ lent-next l ms m = refl
 stage-good : (h : History) (c : Client) (st : Stage) → StageOk h c st → (not (fetched st) || goodValue (c .layout)) ≡ true
 stage-good h c Idle ok = refl
 stage-good h c Fetching ok = refl
-stage-good h c (Working (Drawing n)) ok = ok .fetched .is-good
-stage-good h c (Working (Writing u n)) ok = ok .walk .fetched .is-good
-stage-good h c (Working (Reading u)) ok = ok .fetched .is-good
-stage-good h c (Working (Filling u)) ok = ok .walk .fetched .is-good
-stage-good h c (Working (Looking u)) ok = ok .fetched .is-good
-stage-good h c (Working (Trimming u)) ok = ok .walk .fetched .is-good
-stage-good h c (Working (Pruning u)) ok = ok .fetched .is-good
-stage-good h c (Working (Sealing u x)) ok = ok .fetched .is-good
-stage-good h c (Working (Offering p)) ok = ok .fetched .is-good
-stage-good h c (Working Starting) ok = ok .fetched .is-good
+stage-good h c (Working p) ok = phase-good h c p ok
 
 -- ---- every run
 

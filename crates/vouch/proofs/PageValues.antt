@@ -10,16 +10,22 @@ use borrow.Author.Tests.{le-leb, eqb-true}
 use Rattle.num.proofs.Tests.{false-true}
 use lib.Dec.{eqb}
 use lib.ListN.{length, take}
+use Rattle.num.specs.declared.Epoch.{Epoch}
+use Rattle.num.specs.declared.Position.{Position}
 use Rattle.layout.specs.Value.{padded}
 use Rattle.unit.specs.declared.shape.Shape.{Shape}
 use Rattle.unit.specs.Kinds.{noKind, dataKind, junkKind, isPage, hasBytes, isGone}
 use Rattle.unit.specs.State.{Content, State}
 use Rattle.unit.specs.Memory.{valid}
+use Rattle.unit.specs.Unit.{says, report}
+use Rattle.unit.specs.Unit.Request.{read}
+use Rattle.unit.proofs.Marks.{ReadTells, read-tells, read-shown}
+use Rattle.unit.proofs.Marks.ReadTells.{read-position, read-sealed, read-trimmed, read-unwritten, read-page}
 use Rattle.unit.proofs.Questions.{page-cases, junk-plain}
 use Rattle.unit.proofs.Shown.{shown, Shows, shows}
 use Rattle.unit.proofs.Shown.Shows.{shows-none, shows-page, shows-gone}
 use Rattle.client.specs.declared.Page.{Page}
-use Rattle.client.specs.Message.{pageLimit}
+use Rattle.client.specs.Message.{pageLimit, isShowable}
 use Rattle.rule.specs.Serve.{kindOf, bytesOf}
 use Rattle.rule.specs.Serve.{pageOf as slotPage}
 use Rattle.history.specs.Words.Page.{junk, bytes}
@@ -106,3 +112,22 @@ shown-page sh M p v = go (shows sh M p v)
     go shows-none some stays = absurd (some refl)
     go (shows-page {g = g} a-page fits plain) some stays = content-page (sh .cap) g a-page fits plain
     go (shows-gone gone) some stays = absurd (false-true (sym stays ∙ gone))
+
+-- ---- a client takes it
+
+pub showable : {cap : ℕ} {g : Page} → cap ≤ pageLimit → IsPage cap g → isShowable g ≡ true
+unfolding isShowable
+showable fits (is-data n xs a) = le-leb n pageLimit (le-trans a fits)
+showable fits is-junk = refl
+
+-- sh: the shape by which the unit is asked; in-shape: the one in which it is valid
+pub read-showable : (sh in-shape : Shape) (M : State) (e : Epoch) (p : Position) → valid in-shape M ≡ true → in-shape .cap ≤ pageLimit → says sh M (read e p) ≡ 0 →
+    isShowable (slotPage (report sh M (read e p) .page)) ≡ true
+read-showable sh in-shape M e p v fits z = subst (λ (s : Content). isShowable (slotPage s) ≡ true) (sym (read-shown sh M e p z)) (go (read-tells sh M e p) z)
+  where
+    go : {n : ℕ} → ReadTells M e p n → n ≡ 0 → isShowable (slotPage (shown M (p .0))) ≡ true
+    go (read-position a) z = absurd (omega (arith, z))
+    go (read-sealed a) z = absurd (omega (arith, z))
+    go (read-trimmed a b) z = absurd (omega (arith, z))
+    go (read-unwritten a b) z = absurd (omega (arith, z))
+    go (read-page a b c) z = showable fits (shown-page in-shape M (p .0) v b c)

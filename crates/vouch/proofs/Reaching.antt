@@ -24,6 +24,7 @@ use Rattle.client.specs.declared.Reply.the-variants.{Held}
 use Rattle.client.specs.declared.Response.{Response}
 use Rattle.client.specs.declared.Client.{Client}
 use Rattle.client.specs.declared.state.Job.{Job}
+use Rattle.client.specs.declared.Act.the-variants.{Ends}
 use Rattle.client.specs.declared.Outcome.{Outcome}
 use Rattle.client.specs.declared.turn.Turn.{Turn}
 use Rattle.client.specs.Turn.{outcomeOf, over}
@@ -46,7 +47,7 @@ use Rattle.vouch.specs.Demand.{lastLetter}
 use Rattle.vouch.proofs.Fields.{Reaches}
 use Rattle.vouch.proofs.Coming.{come}
 use Rattle.vouch.proofs.Demand.{same-response, read-same}
-use Rattle.vouch.proofs.Reread.{shownBy, takes-answer}
+use Rattle.vouch.proofs.Reread.{shownBy, ends-answer}
 use Rattle.vouch.proofs.Together.{within-trans}
 use Rattle.vouch.proofs.Operations.{same-way, ends-under, ends-by, ends-who}
 use Rattle.vouch.proofs.EndingSteps.{Took, How, how}
@@ -147,12 +148,13 @@ pub data ReadHow (l : Layout) (ms : Moves) (m : Move) (c : ℕ) (j : Job) (p : �
 
 -- what the client ends with, where a unit answers its read
 answer-outcome : (c : Client) (sh : Shape) (M : State) (e : EpochValue) (q : Position) (x : Response) (o : Outcome) → x ≡ shown sh M e q → o ≡ onRead c (x .reply) (x .page) .outcome →
+    onRead c (x .reply) (x .page) .act ≡ Ends →
     o ≡ outcomeOf c (says sh M (request.read e q)) (shownBy (says sh M (request.read e q)) (report sh M (request.read e q) .page))
 unfolding shown
-answer-outcome c sh M e q x o is out =
+answer-outcome c sh M e q x o is out done =
     let n = says sh M (request.read e q) in
     out ∙ (ap (λ (r : Response). onRead c (r .reply) (r .page) .outcome) is
-    ∙ ap (λ (t : Turn). t .outcome) (takes-answer c n (report sh M (request.read e q) .page) (eqb n 0) refl))
+    ∙ ends-answer c n (report sh M (request.read e q) .page) (eqb n 0) refl (sym (ap (λ (r : Response). onRead c (r .reply) (r .page) .act) is) ∙ done))
 
 module _ (l : Layout) (good : goodValue l ≡ true) (first : l .epoch .0 ≡ 1) where
   pub read-how : {ms : Moves} {m : Move} {p : ℕ} (read : demand.ReadEnds step l ms m p) → ReadHow l ms m (read .client) (read .job) p (result (world l ms) m .outcome)
@@ -186,7 +188,7 @@ module _ (l : Layout) (good : goodValue l ≡ true) (first : l .epoch .0 ≡ 1) 
           = h .outcome-is ∙ ap (λ (z : Turn). z .outcome) turn-is in
           let to : req .stamp .client ≡ read .client = ap (λ (k : Letter). k .stamp .client) (sym letter-is) ∙ t .client-is in
           let M = unitAt (world l (from .before)) u in
-          let is = answer-outcome c (shapeUnder (world l (from .before) .held)) M (c .layout .epoch) (c .position) (response (t .reply) (letterAt w (t .place))) o same out in
+          let is = answer-outcome c (shapeUnder (world l (from .before) .held)) M (c .layout .epoch) (c .position) (response (t .reply) (letterAt w (t .place))) o same out (sym (ap (λ (z : Turn). z .act) turn-is) ∙ h .act-is) in
           let at-position : c .position ≡ read .position = read-same (sym work-is ∙ (ends-by l good first (read .ends) .agrees .work-is ∙ read .is-read)) in
           how-answer {before = from .before} {move = from .move}
           (record {

@@ -4,7 +4,7 @@ use mathlib.Core.Path.{_≡_, refl, sym, ap, subst, _∙_}
 use mathlib.Core.Bool.{Bool, true, false, cond, _&&_}
 use Prim.Native.Nat.{ℕ, _-_, _<_}
 use native.Mathlib.Omega.{arith}
-use borrow.Author.Tests.{eqb-true, eqb-false}
+use borrow.Author.Tests.{eqb-true}
 use lib.Dec.{eqb, leb}
 use Rattle.num.proofs.Tests.{and-both}
 use Rattle.num.specs.Limits.{limit}
@@ -30,12 +30,13 @@ use Rattle.client.specs.declared.state.Job.{Job}
 use Rattle.client.specs.declared.Act.{Act}
 use Rattle.client.specs.declared.Act.the-variants.{Rests, Ends}
 use Rattle.client.specs.declared.turn.Turn.{Turn}
-use Rattle.client.specs.Message.{noPage, plain}
+use Rattle.client.specs.Message.{noRefusal, isShowable, noPage, plain}
 use Rattle.client.specs.Client.{busy, lastNumber, inPhase, holding}
 use Rattle.client.specs.Turn.{rests, over, ends, outcomeOf, sent, sends, otherwise}
 use Rattle.client.specs.Way.{tailFor}
-use Rattle.client.specs.Read.{reads, onRead}
+use Rattle.client.specs.Read.{reads, pageTaken, onRead}
 use Rattle.client.specs.Take.{goesOn, holds, onFetched, answered, awaited, takes}
+use Rattle.client.proofs.Turns.{refusal-some, works-good}
 use Rattle.rule.specs.declared.Letter.{Letter}
 use Rattle.rule.specs.declared.Body.the-variants.{Answers}
 use Rattle.rule.specs.declared.Step.{Step}
@@ -87,7 +88,7 @@ module _ (c : Client) (p : Position) (is : c .work ≡ work.Read p) where
   pub told : {h : History} {a : Ask} {g : Page} {k : Layout} {x : Response} (st : Stage) → StageOk h c st → Waits (c .layout) (c .position) (c .page) (c .plan) st a g k →
       Means h a g k x → answered st c x .act ≡ Ends → Told c a x (answered st c x)
   told Fetching ok waits-fetch (means-held {l = l} laid good) done = told-spent refl (fetch-spent l good done)
-  told (Working (Reading u)) ok waits-read means done = told-answer u refl (ok .is-read) (ok .low) refl
+  told {x = x} (Working (Reading u)) ok waits-read means done = told-answer u refl (ok .is-read) (ok .low) (works-good c (Reading u) (x .reply) (x .page) (ok .fetched .is-good))
   told (Working (Drawing n)) ok waits-token means done = clash (ok .is-append) (λ e. let z : _≡_ {A = ℕ} 0 1 = cc in omega arith)
   told (Working (Writing u n)) ok waits-write means done = clash (ok .is-append) (λ e. let z : _≡_ {A = ℕ} 0 1 = cc in omega arith)
   told (Working (Filling u)) ok waits-fill means done = clash (ok .is-fill) (λ e. let z : _≡_ {A = ℕ} 0 1 = cc in omega arith)
@@ -106,7 +107,7 @@ pub data Tells (x : Response) : Answer → Type 0 where
 
 -- what a read returns, the answer told
 pub returned-told : (c : Client) (x : Response) (r : Answer) → onRead c (x .reply) (x .page) .act ≡ Ends → Returns (onRead c (x .reply) (x .page) .outcome) r → Tells x r
-unfolding otherwise
+unfolding otherwise noRefusal pageTaken
 returned-told c x r = go (x .reply) refl
   where
     idle-turn : {A : Type 0} → _≡_ {A = Act} Rests Ends → A
@@ -122,17 +123,21 @@ returned-told c x r = go (x .reply) refl
     number-told n is n0 (returns-trimmed e) = tells-trimmed (is ∙ ap Refused e)
     number-told n is n0 (returns-unwritten e) = tells-unwritten (is ∙ ap Refused e)
 
-    refused-so : (n : ℕ) → x .reply ≡ Refused n → (b : Bool) → eqb n 0 ≡ b → cond b (rests c) (ends c n) .act ≡ Ends → Returns (cond b (rests c) (ends c n) .outcome) r → Tells x r
+    page-so : x .reply ≡ Shown → (b : Bool) → cond b (over c 0 (x .page)) (rests c) .act ≡ Ends → Returns (cond b (over c 0 (x .page)) (rests c) .outcome) r → Tells x r
+    page-so is true act returns = page-told is returns
+    page-so is false act returns = idle-turn act
+
+    refused-so : (n : ℕ) → x .reply ≡ Refused n → (b : Bool) → noRefusal n ≡ b → cond b (rests c) (ends c n) .act ≡ Ends → Returns (cond b (rests c) (ends c n) .outcome) r → Tells x r
     refused-so n is true e act returns = idle-turn act
-    refused-so n is false e act returns = number-told n is (eqb-false n 0 e) returns
+    refused-so n is false e act returns = number-told n is (refusal-some n e) returns
 
     go : (a : Reply) → x .reply ≡ a → onRead c a (x .page) .act ≡ Ends → Returns (onRead c a (x .page) .outcome) r → Tells x r
     go Held is act returns = idle-turn act
     go (Given p) is act returns = idle-turn act
     go Fine is act returns = idle-turn act
-    go Shown is act returns = page-told is returns
+    go Shown is act returns = page-so is (isShowable (x .page)) act returns
     go (Edge p) is act returns = idle-turn act
-    go (Refused n) is act returns = refused-so n is (eqb n 0) refl act returns
+    go (Refused n) is act returns = refused-so n is (noRefusal n) refl act returns
 
 -- ---- and the answer is to the request that the client waits for
 

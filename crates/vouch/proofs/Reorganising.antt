@@ -14,7 +14,7 @@ use Rattle.num.proofs.Tests.{and-both}
 use Rattle.client.specs.declared.turn.Turn.{Turn}
 use Rattle.layout.specs.declared.Layout.{Layout}
 use Rattle.layout.specs.Lay.{Lay, _in?_, unitsOf}
-use Rattle.layout.specs.Value.{layOf}
+use Rattle.layout.specs.Value.{layOf, goodValue}
 use Rattle.layout.specs.Places.{above}
 use Rattle.layout.proofs.Sets.{above-next}
 use Rattle.unit.specs.State.{State, edge}
@@ -28,14 +28,14 @@ use Rattle.client.specs.declared.Reply.{Reply}
 use Rattle.client.specs.declared.Reply.the-variants.{Edge}
 use Rattle.client.specs.declared.Client.{Client}
 use Rattle.client.specs.declared.Phase.the-variants.{Sealing}
-use Rattle.client.specs.Message.{plain}
+use Rattle.client.specs.Message.{noPage, plain}
 use Rattle.client.specs.Client.{inPhase, lastNumber}
 use Rattle.client.specs.Turn.{numbered, next, sends}
 use Rattle.client.specs.Way.{unitAbove}
 use Rattle.client.specs.Reorganise.{allSealed, seals, sealsOn, larger}
 use Rattle.client.specs.Take.{answered}
 use Rattle.client.proofs.Clients.{larger-within}
-use Rattle.client.proofs.Turns.{seal-cases, edge-cases}
+use Rattle.client.proofs.Turns.{seal-cases, edge-cases, works-good}
 use Rattle.rule.specs.World.{World, shapeUnder, isUnit, running}
 use Rattle.rule.specs.Serve.{bare, atUnit, unitSays, unitAfter, serve}
 use Rattle.vouch.specs.LastSentence.{exchanges, Conditions}
@@ -63,6 +63,9 @@ module _ (w : World) (c : ℕ) (sound : Sound w) (may : Conditions w c) where
   pub record OnWay (y : Client) : Type 0 where
     pub layout-is : y .layout ≡ k
     pub plan-is : y .plan ≡ plan
+
+  under : (y : Client) → OnWay y → goodValue (y .layout) ≡ true
+  under y way = ap goodValue (way .layout-is) ∙ sound .held-good
 
   -- ---- a seal
 
@@ -116,7 +119,9 @@ module _ (w : World) (c : ℕ) (sound : Sound w) (may : Conditions w c) where
     told-few = edge-limit (shapeUnder k) M (on .kept v (is .low) (is .high) .is-valid)
 
     seal-taken : answered (y₃ .stage) x₃ (bare (Edge told)) ≡ sealsOn x₃ v (larger e told)
-    seal-taken = edge-cases (λ (t : Turn). t ≡ sealsOn x₃ v (larger e told)) x₃ v e told (λ few. refl) (λ past. absurd (omega (arith, told-few)))
+    seal-taken =
+        works-good x₃ (Sealing v e) (Edge told) noPage (under y way)
+        ∙ edge-cases (λ (t : Turn). t ≡ sealsOn x₃ v (larger e told)) x₃ v e told (λ few. refl) (λ past. absurd (omega (arith, told-few)))
 
     larger-few : larger e told .0 ≤ limit
     larger-few = larger-within e told limit few told-few
@@ -146,7 +151,7 @@ module _ (w : World) (c : ℕ) (sound : Sound w) (may : Conditions w c) where
   unfolding requests
   seals-come {u} (walk-end none) us y e on way few left =
       comes-as w c sound may (seal-cases (λ (t : Turn). t ≡ allSealed y e) y u e (λ last. refl) (λ some. absurd (some (next-unit y u (way .plan-is) ∙ none))))
-      (offer-comes w c sound may us y e on (way .plan-is) few left)
+      (offer-comes w c sound may us y e on (way .plan-is) (under y way) few left)
   seals-come {u} (walk-next {v = v} {vs = vs} is lt rest) us y e on way few left =
       let works = next-works u v is lt in
       let at : unitAbove (y .plan) u ≡ v = next-unit y u (way .plan-is) ∙ is in

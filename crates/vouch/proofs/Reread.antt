@@ -10,6 +10,7 @@ use lib.Dec.{eqb, leb}
 use lib.ListN.{length, set}
 use lib.Seq.{getD-append-seam, getD-set-same}
 use Rattle.num.specs.Limits.{limit}
+use Rattle.num.specs.declared.Epoch.{Epoch}
 use Rattle.num.specs.declared.Position.{Position}
 use Rattle.layout.specs.Value.{layOf, goodValue, blank}
 use Rattle.layout.specs.Places.{setAt, tailOf}
@@ -17,6 +18,8 @@ use Rattle.unit.specs.State.{Content, State}
 use Rattle.unit.specs.Unit.{says as unit-says, report}
 use Rattle.unit.specs.Unit.Request.{read}
 use Rattle.unit.proofs.Answers.{after-read}
+use Rattle.unit.proofs.Marks.{ReadTells, read-tells}
+use Rattle.unit.proofs.Marks.ReadTells.{read-position, read-sealed, read-trimmed, read-unwritten, read-page}
 use Rattle.client.specs.declared.UnitAsk.the-variants as unit-ask
 use Rattle.client.specs.declared.Ask.the-variants as ask
 use Rattle.client.specs.declared.Page.{Page}
@@ -27,15 +30,16 @@ use Rattle.client.specs.declared.Stamp.{Stamp}
 use Rattle.client.specs.declared.Client.{Client}
 use Rattle.client.specs.declared.Work.the-variants.{Read}
 use Rattle.client.specs.declared.Phase.the-variants.{Reading}
+use Rattle.client.specs.declared.Act.the-variants.{Ends}
 use Rattle.client.specs.declared.Outcome.{Outcome}
 use Rattle.client.specs.declared.turn.Turn.{Turn}
-use Rattle.client.specs.Message.{noPage, plain}
+use Rattle.client.specs.Message.{lastRefusal, isShowable, noPage, plain}
 use Rattle.client.specs.Client.{fresh, busy, jobOf, inPhase, lastNumber}
-use Rattle.client.specs.Turn.{numbered, next, sends, over}
+use Rattle.client.specs.Turn.{outcomeOf, numbered, next, sends, over}
 use Rattle.client.specs.Read.{onRead}
 use Rattle.client.specs.Way.{tailFor}
 use Rattle.client.specs.Take.{goesOn, worked, answered}
-use Rattle.client.proofs.Turns.{sends-sent, otherwise-ends}
+use Rattle.client.proofs.Turns.{page-cases, otherwise-cases, sends-sent, otherwise-ends, page-shown, works-good}
 use Rattle.rule.specs.World.{World, shapeUnder, running, clientAt, unitAt, letterAt, blankLetter}
 use Rattle.rule.specs.Serve.{ServedWorld, bare, pageOf, unitSays, unitAfter, serve}
 use Rattle.rule.specs.Serve.{shown as reading-of}
@@ -51,16 +55,37 @@ use Rattle.vouch.proofs.Beginning.{Ready, Fit, fetched, begin-fetch, fe
 abbrev pub shownBy : ℕ → Content → Page
 shownBy n s = cond (eqb n 0) (pageOf s) noPage
 
+-- what is answered to a read: the page, or the number
+abbrev told : ℕ → Content → Bool → Response
+told n s b = cond b (record { reply = Shown; page = pageOf s; layout = blank }) (bare (Refused n))
+
 -- the client ends with the number and the page that it is answered
-pub takes-answer : (x : Client) (n : ℕ) (s : Content) (b : Bool) → eqb n 0 ≡ b →
-    let r : Response = cond b (record { reply = Shown; page = pageOf s; layout = blank }) (bare (Refused n)) in
-    onRead x (r .reply) (r .page) ≡ over x n (cond b (pageOf s) noPage)
-takes-answer x n s true e = ap (λ m. over x m (pageOf s)) (sym (eqb-true n 0 e))
-takes-answer x n s false e = otherwise-ends x n (eqb-false n 0 e)
+takes-answer : (x : Client) (n : ℕ) (s : Content) → (n ≡ 0 → isShowable (pageOf s) ≡ true) → n ≤ lastRefusal → (b : Bool) → eqb n 0 ≡ b →
+    onRead x (told n s b .reply) (told n s b .page) ≡ over x n (cond b (pageOf s) noPage)
+takes-answer x n s fits few true e =
+    let none = eqb-true n 0 e in
+    page-shown x (pageOf s) (fits none) ∙ ap (λ m. over x m (pageOf s)) (sym none)
+takes-answer x n s fits few false e = otherwise-ends x n (eqb-false n 0 e) few
+
+-- and where it ends, it is with those
+pub ends-answer : (x : Client) (n : ℕ) (s : Content) (b : Bool) → eqb n 0 ≡ b → onRead x (told n s b .reply) (told n s b .page) .act ≡ Ends →
+    onRead x (told n s b .reply) (told n s b .page) .outcome ≡ outcomeOf x n (cond b (pageOf s) noPage)
+ends-answer x n s true e =
+    page-cases (λ (t : Turn). t .act ≡ Ends → t .outcome ≡ outcomeOf x n (pageOf s)) x (pageOf s) (λ shown done. ap (λ m. outcomeOf x m (pageOf s)) (sym (eqb-true n 0 e)))
+    (λ misfit done. absurd (let z : _≡_ {A = ℕ} 0 1 = cc in omega arith))
+ends-answer x n s false e =
+    otherwise-cases (λ (t : Turn). t .act ≡ Ends → t .outcome ≡ outcomeOf x n noPage) x n (λ none done. absurd (let z : _≡_ {A = ℕ} 0 1 = cc in omega arith)) (λ some done. refl)
+
+few-told : {M : State} {e : Epoch} {p : Position} {n : ℕ} → ReadTells M e p n → n ≤ lastRefusal
+few-told (read-position a) = omega arith
+few-told (read-sealed a) = omega arith
+few-told (read-trimmed a b) = omega arith
+few-told (read-unwritten a b) = omega arith
+few-told (read-page a b c) = omega arith
 
 module _ (w : World) (c : ℕ) (ready : Ready w c) (p : Position) (below : p .0 < limit) (good : goodValue (w .held) ≡ true) where
   fit : Fit (jobOf (Read p)) (w .held .shape)
-  fit = record { below = lt-leb limit (p .0) below; short = refl }
+  fit = record { below = lt-leb limit (p .0) below; short = refl; few-drops = refl }
 
   abbrev x : Client
   x = fetched w c ready (jobOf (Read p)) fit
@@ -94,7 +119,8 @@ module _ (w : World) (c : ℕ) (ready : Ready w c) (p : Position) (below : p .0 
   abbrev response : Response
   response = reading-of (shapeUnder (w .held)) M (w .held .epoch) p
 
-  module _ (works : running (w .stopped) tail ≡ true) (left : clientAt w c .used .0 + 2 ≤ lastNumber) where
+  module _ (works : running (w .stopped) tail ≡ true) (left : clientAt w c .used .0 + 2 ≤ lastNumber)
+      (a-page : says ≡ 0 → isShowable (pageOf (report (shapeUnder (w .held)) M (read (w .held .epoch) p) .page)) ≡ true) where
     asks : Asked w c (w .letters) (ready .is-client) (ready .clients) (ready .few) (w .held) (w .held) (w .units) (w .units) (w .sequencer) (w .sequencer) y ask-tail response
     unfolding unitSays unitAfter serve
     asks = record { there = not-so (running (w .stopped) tail) works; serves = ap there-with (ap (λ (s : State). set (w .units) (tail - 1) s) (after-read (shapeUnder (w .held)) M (w .held .epoch) p) ∙ unit-same w tail) }
@@ -104,7 +130,9 @@ module _ (w : World) (c : ℕ) (ready : Ready w c) (p : Position) (below : p .0 
 
     taken : answered (y .stage) (numbered y (next y)) response ≡ over (numbered y (next y)) says shows
     unfolding reading-of
-    taken = takes-answer (numbered y (next y)) says (report (shapeUnder (w .held)) M (read (w .held .epoch) p) .page) (eqb says 0) refl
+    taken =
+        works-good (numbered y (next y)) (Reading tail) (response .reply) (response .page) good
+        ∙ takes-answer (numbered y (next y)) says (report (shapeUnder (w .held)) M (read (w .held .epoch) p) .page) a-page (few-told (read-tells (shapeUnder (w .held)) M (w .held .epoch) p)) (eqb says 0) refl
 
     abbrev outcome : Outcome
     outcome = record { number = says; position = p; epoch = w .held .epoch; page = shows }

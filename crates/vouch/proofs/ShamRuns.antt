@@ -24,17 +24,17 @@ use Rattle.unit.specs.Unit.{written, sealedAt, says as unit-says, after as unit
 use Rattle.sequencer.specs.Rules.{number, position, told, after as sequencer-after}
 use Rattle.client.specs.declared.Ask.the-variants as ask
 use Rattle.client.specs.declared.UnitAsk.the-variants as unit-ask
-use Rattle.client.specs.Message.{pageLimit, dataLimit, noPage}
+use Rattle.client.specs.Message.{noRefusal, isShowable, pageLimit, dataLimit, noPage}
 use Rattle.client.specs.declared.Work.{Work}
 use Rattle.client.specs.declared.Work.the-variants.{Append, Read, Fill, Trim, Prune, Reorganise}
 use Rattle.client.specs.Client.{idle, inPhase, atPosition, holding, planning, jobOf, appendOf, reorganiseOf, noChange}
 use Rattle.client.specs.Turn.{outcomeOf, over, ends, numbered, sends, otherwise}
 use Rattle.client.specs.Way.{headFor, tailFor, afterFor, unitAbove, planFor, startFor}
 use Rattle.client.specs.Append.{draws, writes, writesAt, onToken, writesOn, onWritten}
-use Rattle.client.specs.Read.{reads, onRead}
-use Rattle.client.specs.Fill.{fills, fillsOn, onFilled}
+use Rattle.client.specs.Read.{pageTaken, reads, onRead}
+use Rattle.client.specs.Fill.{pageCarried, fills, fillsOn, onFilled}
 use Rattle.client.specs.Begin.{beginAnswer, withJob, beginTurn, giveUp}
-use Rattle.client.specs.Take.{goesOn, holds, onFetched, answered, awaited, takes}
+use Rattle.client.specs.Take.{goesOn, holds, onFetched, worksOn, answered, awaited, takes}
 use Rattle.client.specs.Reorganise.{seals, offers, allSealed, sealsOn, reorganises, larger, edgeTaken, onSealed, starts, onOffered, onStarted}
 use Rattle.client.specs.declared.Reply.the-variants.{Shown}
 use Rattle.rule.specs.World.{World, clientAt, letterAt}
@@ -83,7 +83,7 @@ pub record Swapped : Type 0 where
   pub reached : Reaches step l asked-first deliver both deliver 0 1
 
 pub swapped-run : Swapped
-unfolding rising goodSet goodSets goodSpans firstAtZero used good _in?_ inSets usedFrom unitsOf padded layOf valueOf zeros tidyChain tidyChains blankRanges tidy goodValue placed setNumber setAt headOf tailOf after above placeAnswer unitsAt without badDrops emptied planned lastStart goodChains reorganiseAnswer plannedFor isOpen settleAnswer settled settledFirst startedAt offerAnswer offeredTo fetchedFrom sublist keepsSets keepsSpans lawful lookup insert lastEnd edge written sealedAt number position told sequencer-after idle sends dataLimit shapeFor writesAt writesOn beginTurn holds awaited takes allSealed sealsOn reorganises larger edgeTaken letters-without turned beginNumber begins served taken delivered delivers step kindOf bytesOf pageOf shown edged asking fetching offeringTo unitSays unitAfter serve freshUnits freshWorld worldBy fillsOn isPage hasBytes isGone unit-says unit-after report
+unfolding rising goodSet goodSets goodSpans firstAtZero used good _in?_ inSets usedFrom unitsOf padded layOf valueOf zeros tidyChain tidyChains blankRanges tidy goodValue placed setNumber setAt headOf tailOf after above placeAnswer unitsAt without badDrops emptied planned lastStart goodChains reorganiseAnswer plannedFor isOpen settleAnswer settled settledFirst startedAt offerAnswer offeredTo fetchedFrom sublist keepsSets keepsSpans lawful lookup insert lastEnd edge written sealedAt number position told sequencer-after idle sends dataLimit shapeFor writesAt writesOn beginTurn holds worksOn isShowable pageTaken pageCarried awaited takes allSealed sealsOn reorganises larger edgeTaken letters-without turned beginNumber begins served taken delivered delivers step kindOf bytesOf pageOf shown edged asking fetching offeringTo unitSays unitAfter serve freshUnits freshWorld worldBy fillsOn isPage hasBytes isGone unit-says unit-after report
 swapped-run =
     let taken-it : letterAt (world l both) 0 ≡ shows-7 = refl in
     let given : lastLetter (world l reading) ≡ shows-7 = refl in
@@ -159,7 +159,7 @@ pub record Astray : Type 0 where
   pub second-returns : outcome elsewhere l honest deliver ≡ returned 1 junkPage
 
 pub astray-run : Astray
-unfolding rising goodSet goodSets goodSpans firstAtZero used good _in?_ inSets usedFrom unitsOf padded layOf valueOf zeros tidyChain tidyChains blankRanges tidy goodValue placed setNumber setAt headOf tailOf after above placeAnswer unitsAt without badDrops emptied planned lastStart goodChains reorganiseAnswer plannedFor isOpen settleAnswer settled settledFirst startedAt offerAnswer offeredTo fetchedFrom sublist keepsSets keepsSpans lawful lookup insert lastEnd edge written sealedAt number position told sequencer-after idle sends dataLimit shapeFor writesAt writesOn beginTurn holds awaited takes allSealed sealsOn reorganises larger edgeTaken letters-without turned beginNumber begins served taken delivered delivers step kindOf bytesOf pageOf shown edged asking fetching offeringTo unitSays unitAfter serve freshUnits freshWorld worldBy fillsOn isPage hasBytes isGone unit-says unit-after report
+unfolding rising goodSet goodSets goodSpans firstAtZero used good _in?_ inSets usedFrom unitsOf padded layOf valueOf zeros tidyChain tidyChains blankRanges tidy goodValue placed setNumber setAt headOf tailOf after above placeAnswer unitsAt without badDrops emptied planned lastStart goodChains reorganiseAnswer plannedFor isOpen settleAnswer settled settledFirst startedAt offerAnswer offeredTo fetchedFrom sublist keepsSets keepsSpans lawful lookup insert lastEnd edge written sealedAt number position told sequencer-after idle sends dataLimit shapeFor writesAt writesOn beginTurn holds worksOn isShowable pageTaken pageCarried awaited takes allSealed sealsOn reorganises larger edgeTaken letters-without turned beginNumber begins served taken delivered delivers step kindOf bytesOf pageOf shown edged asking fetching offeringTo unitSays unitAfter serve freshUnits freshWorld worldBy fillsOn isPage hasBytes isGone unit-says unit-after report
 astray-run = record {
   first-ends = record {
     client = 2;
@@ -215,7 +215,7 @@ pub record Lost : Type 0 where
   pub number-is : outcome losing l (lost-asked ▸ deliver) deliver .number ≡ 7
 
 pub lost-run : Lost
-unfolding rising goodSet goodSets goodSpans firstAtZero used good _in?_ inSets usedFrom unitsOf padded layOf valueOf zeros tidyChain tidyChains blankRanges tidy goodValue placed setNumber setAt headOf tailOf after above placeAnswer unitsAt without badDrops emptied planned lastStart goodChains reorganiseAnswer plannedFor isOpen settleAnswer settled settledFirst startedAt offerAnswer offeredTo fetchedFrom sublist keepsSets keepsSpans lawful lookup insert lastEnd edge written sealedAt number position told sequencer-after idle sends dataLimit shapeFor writesAt writesOn beginTurn holds awaited takes allSealed sealsOn reorganises larger edgeTaken letters-without turned beginNumber begins served taken delivered delivers step kindOf bytesOf pageOf shown edged asking fetching offeringTo unitSays unitAfter serve freshUnits freshWorld worldBy otherwise isPage hasBytes isGone unit-says unit-after report
+unfolding rising goodSet goodSets goodSpans firstAtZero used good _in?_ inSets usedFrom unitsOf padded layOf valueOf zeros tidyChain tidyChains blankRanges tidy goodValue placed setNumber setAt headOf tailOf after above placeAnswer unitsAt without badDrops emptied planned lastStart goodChains reorganiseAnswer plannedFor isOpen settleAnswer settled settledFirst startedAt offerAnswer offeredTo fetchedFrom sublist keepsSets keepsSpans lawful lookup insert lastEnd edge written sealedAt number position told sequencer-after idle sends dataLimit shapeFor writesAt writesOn beginTurn holds worksOn isShowable pageTaken noRefusal awaited takes allSealed sealsOn reorganises larger edgeTaken letters-without turned beginNumber begins served taken delivered delivers step kindOf bytesOf pageOf shown edged asking fetching offeringTo unitSays unitAfter serve freshUnits freshWorld worldBy otherwise isPage hasBytes isGone unit-says unit-after report
 lost-run = record {
   acknowledged = record {
     client = 1;
@@ -290,7 +290,7 @@ pub record Stale : Type 0 where
   pub number-is : outcome stale l (given-up ▸ begin 2 late) deliver .number ≡ 7
 
 pub stale-run : Stale
-unfolding rising goodSet goodSets goodSpans firstAtZero used good _in?_ inSets usedFrom unitsOf padded layOf valueOf zeros tidyChain tidyChains blankRanges tidy goodValue placed setNumber setAt headOf tailOf after above placeAnswer unitsAt without badDrops emptied planned lastStart goodChains reorganiseAnswer plannedFor isOpen settleAnswer settled settledFirst startedAt offerAnswer offeredTo fetchedFrom sublist keepsSets keepsSpans lawful lookup insert lastEnd edge written sealedAt number position told sequencer-after idle sends dataLimit shapeFor writesAt writesOn beginTurn holds awaited takes allSealed sealsOn reorganises larger edgeTaken letters-without turned beginNumber begins served taken delivered delivers step kindOf bytesOf pageOf shown edged asking fetching offeringTo unitSays unitAfter serve freshUnits freshWorld worldBy otherwise giveUp givesUp isPage hasBytes isGone unit-says unit-after report
+unfolding rising goodSet goodSets goodSpans firstAtZero used good _in?_ inSets usedFrom unitsOf padded layOf valueOf zeros tidyChain tidyChains blankRanges tidy goodValue placed setNumber setAt headOf tailOf after above placeAnswer unitsAt without badDrops emptied planned lastStart goodChains reorganiseAnswer plannedFor isOpen settleAnswer settled settledFirst startedAt offerAnswer offeredTo fetchedFrom sublist keepsSets keepsSpans lawful lookup insert lastEnd edge written sealedAt number position told sequencer-after idle sends dataLimit shapeFor writesAt writesOn beginTurn holds worksOn isShowable pageTaken noRefusal awaited takes allSealed sealsOn reorganises larger edgeTaken letters-without turned beginNumber begins served taken delivered delivers step kindOf bytesOf pageOf shown edged asking fetching offeringTo unitSays unitAfter serve freshUnits freshWorld worldBy otherwise giveUp givesUp isPage hasBytes isGone unit-says unit-after report
 stale-run = record {
   late-ends = later (begun (record { does-begin = refl; job-is = refl; not-refused = refl }) (not-yet two refl)) refl;
   number-is = refl;

@@ -1,6 +1,6 @@
 -- A client's turn keeps its operation: it rests as it was, goes on with the same work and, where it appends, the same page, or its operation is over.
 -- Rests on the client's rules.
-use mathlib.Core.Path.{_≡_, refl, _∙_}
+use mathlib.Core.Path.{_≡_, refl, ap, _∙_}
 use mathlib.Core.Bool.{Bool, true, false, _||_, cond}
 use Prim.Native.Nat.{ℕ, _+_}
 use lib.Dec.{eqb, leb, ltb}
@@ -23,16 +23,17 @@ use Rattle.client.specs.declared.Stage.the-variants.{Idle, Fetching, Working}
 use Rattle.client.specs.declared.Phase.the-variants.{Drawing, Writing, Reading, Filling, Looking, Trimming, Pruning, Sealing, Offering, Starting}
 use Rattle.client.specs.declared.Client.{Client}
 use Rattle.client.specs.declared.turn.Turn.{Turn}
-use Rattle.client.specs.Message.{noPage, plain, bearing, offering, numberOf, ifHeld, ifGiven, ifFine, ifShown, ifEdge}
+use Rattle.client.specs.Message.{noRefusal, isShowable, noPage, plain, bearing, offering, numberOf, ifHeld, ifGiven, ifFine, ifShown, ifEdge}
 use Rattle.client.specs.Client.{busy, tokenLimit, lastNumber, inPhase, atPosition, carrying, holding, planning}
 use Rattle.client.specs.Turn.{rests, over, ends, sent, sends, otherwise}
 use Rattle.client.specs.Way.{headFor, tailFor, afterFor, unitAbove, planFor, startFor}
 use Rattle.client.specs.Append.{draws, writes, writesAt, onToken, writesOn, notAtHead, notLater, notWritten, onWritten}
-use Rattle.client.specs.Read.{reads, onRead}
-use Rattle.client.specs.Fill.{fills, looks, fillsOn, notFilled, onFilled, onLooked}
+use Rattle.client.specs.Read.{reads, pageTaken, onRead}
+use Rattle.client.specs.Fill.{fills, looks, fillsOn, notFilled, onFilled, pageCarried, onLooked}
 use Rattle.client.specs.Trim.{trims, trimsOn, onTrimmed, prunes, prunesOn, onPruned}
 use Rattle.client.specs.Reorganise.{seals, offers, allSealed, sealsOn, reorganises, larger, edgeTaken, onSealed, starts, onOffered, notStarted, onStarted}
-use Rattle.client.specs.Take.{goesOn, holds, onFetched, answered}
+use Rattle.client.specs.Take.{goesOn, holds, onFetched, worked, answered}
+use Rattle.client.proofs.Turns.{working-cases}
 
 -- d has the operation of c, in its life and with the numbers that it has used
 pub record Like (c d : Client) : Type 0 where
@@ -109,7 +110,7 @@ module _ (c : Client) where
 
   other : (n : ℕ) → So (otherwise c n)
   unfolding otherwise
-  other n = either (eqb n 0) rests-so (ended c n self)
+  other n = either (noRefusal n) rests-so (ended c n self)
 
   -- the next request
   next : (d : Client) (s : Phase) (q : Query) → Like c d → So (sends (inPhase d s) q)
@@ -212,7 +213,14 @@ module _ (c : Client) where
 
   -- what it carries then is another page, and it fills
   looked : (u : ℕ) (a : Reply) (g : Page) → ¬ (c .work ≡ Append) → So (onLooked c u a g)
-  looked u a g fills = shown a (fills-on (carrying c g) u (record { life-same = refl; used-same = refl; work-same = refl; page-same = λ is. absurd (fills is) })) (other (numberOf a))
+  unfolding pageCarried
+  looked u a g fills =
+      let like : Like c (carrying c g) = record { life-same = refl; used-same = refl; work-same = refl; page-same = λ is. absurd (fills is) } in
+      shown a (either (isShowable g) (fills-on (carrying c g) u like) rests-so) (other (numberOf a))
+
+  read : (a : Reply) (g : Page) → So (onRead c a g)
+  unfolding pageTaken
+  read a g = shown a (either (isShowable g) (over-so c 0 g refl refl refl) rests-so) (other (numberOf a))
 
   trimmed : (u : ℕ) (a : Reply) → So (onTrimmed c u a)
   unfolding trimsOn
@@ -229,16 +237,21 @@ module _ (c : Client) where
   unfolding notStarted
   started a = fine a (ended c 0 self) (either (eqb (numberOf a) 4) (ended c 11 self) (other (numberOf a)))
 
+  -- the answer that a phase waits for
+  worked-steady : (p : Phase) (a : Reply) (g : Page) → ((u : ℕ) → p ≡ Looking u → ¬ (c .work ≡ Append)) → So (worked p c a g)
+  worked-steady (Drawing n) a g looks = tokened n a
+  worked-steady (Writing u n) a g looks = written u n a
+  worked-steady (Reading u) a g looks = read a g
+  worked-steady (Filling u) a g looks = filled u a
+  worked-steady (Looking u) a g looks = looked u a g (looks u refl)
+  worked-steady (Trimming u) a g looks = trimmed u a
+  worked-steady (Pruning u) a g looks = fine a (prunes-on c u self) (other (numberOf a))
+  worked-steady (Sealing u e) a g looks = sealed u e a
+  worked-steady (Offering p) a g looks = offered p a
+  worked-steady Starting a g looks = started a
+
   pub answered-steady : (st : Stage) (r : Response) → ((u : ℕ) → st ≡ Working (Looking u) → ¬ (c .work ≡ Append)) → Steady c (busy st) (answered st c r)
   answered-steady Idle r looks = rests-so
   answered-steady Fetching r looks = fetched (r .reply) (r .layout)
-  answered-steady (Working (Drawing n)) r looks = tokened n (r .reply)
-  answered-steady (Working (Writing u n)) r looks = written u n (r .reply)
-  answered-steady (Working (Reading u)) r looks = shown (r .reply) (over-so c 0 (r .page) refl refl refl) (other (numberOf (r .reply)))
-  answered-steady (Working (Filling u)) r looks = filled u (r .reply)
-  answered-steady (Working (Looking u)) r looks = looked u (r .reply) (r .page) (looks u refl)
-  answered-steady (Working (Trimming u)) r looks = trimmed u (r .reply)
-  answered-steady (Working (Pruning u)) r looks = fine (r .reply) (prunes-on c u self) (other (numberOf (r .reply)))
-  answered-steady (Working (Sealing u e)) r looks = sealed u e (r .reply)
-  answered-steady (Working (Offering p)) r looks = offered p (r .reply)
-  answered-steady (Working Starting) r looks = started (r .reply)
+  answered-steady (Working p) r looks =
+      working-cases So c p (r .reply) (r .page) (λ good. worked-steady p (r .reply) (r .page) (λ u is. looks u (ap Working is))) (λ bad. ended c 10 self)

@@ -8,9 +8,13 @@ use native.Mathlib.Decide.{decLt}
 use Rattle.num.specs.Limits.{limit}
 use Rattle.layout.specs.declared.Layout.{Layout}
 use Rattle.layout.specs.Lay.{good}
-use Rattle.layout.specs.Value.{layOf}
+use Rattle.layout.specs.Value.{layOf, goodValue}
 use Rattle.layout.specs.Places.{setAt, headOf, after}
 use Rattle.layout.proofs.Values.{value-of-good}
+use Rattle.client.specs.declared.Phase.{Phase}
+use Rattle.client.specs.declared.Phase.the-variants.{Drawing, Writing, Reading, Filling, Looking, Trimming, Pruning, Sealing, Offering, Starting}
+use Rattle.client.specs.declared.Stage.the-variants.{Working}
+use Rattle.client.specs.declared.Client.{Client}
 use Rattle.history.specs.Words.{UnitNo, Pos, Page, Before}
 use Rattle.history.specs.Maps.{Map, Has, Serves, Good}
 use Rattle.history.specs.History.{History, Noted, MarkNoted, Mark, MarkedBy}
@@ -22,7 +26,7 @@ use Rattle.vouch.proofs.Layouts.{mapOf}
 use Rattle.history.proofs.Order.{before-in, before-less, less-before}
 use Rattle.vouch.proofs.GoodMap.{good-map, epoch-of}
 use Rattle.vouch.proofs.Walks.{head-serves, head-least, after-serves, after-next, after-last}
-use Rattle.vouch.proofs.Meaning.{LookOk, WrittenBefore, Fetched, Walking}
+use Rattle.vouch.proofs.Meaning.{LookOk, WrittenBefore, Fetched, Walking, StageOk}
 use Rattle.history.proofs.Epochs.{laid-one}
 use Rattle.history.specs.Events.{Walked, Run}
 use Rattle.history.proofs.Stretches.{of-only, upTo-covers, prune-asked}
@@ -33,6 +37,19 @@ module _ {h : History} {l : Layout} (fetched : Fetched h l) where
 
   pub map-good : Good (mapOf (layOf l))
   map-good = good-map (layOf l) is-good
+
+-- the layout that a client works under is good
+pub phase-good : (h : History) (c : Client) (p : Phase) → StageOk h c (Working p) → goodValue (c .layout) ≡ true
+phase-good h c (Drawing n) ok = ok .fetched .is-good
+phase-good h c (Writing u n) ok = ok .walk .fetched .is-good
+phase-good h c (Reading u) ok = ok .fetched .is-good
+phase-good h c (Filling u) ok = ok .walk .fetched .is-good
+phase-good h c (Looking u) ok = ok .fetched .is-good
+phase-good h c (Trimming u) ok = ok .walk .fetched .is-good
+phase-good h c (Pruning u) ok = ok .fetched .is-good
+phase-good h c (Sealing u x) ok = ok .fetched .is-good
+phase-good h c (Offering x) ok = ok .fetched .is-good
+phase-good h c Starting ok = ok .fetched .is-good
 
 -- ---- a walk
 

@@ -64,7 +64,7 @@ fn good_client(client: Client) -> bool
     !has_fetched(stage) | is_good(layout)
 }
 
-fn good_clients(clients: [Client; 4]) -> bool
+fn good_clients(clients: [Client; Yard::CLIENTS]) -> bool
     ensures { λ r. ⌜ r ≡ goodClients clients ⌝ }
 {
     let first = clients[0];
@@ -83,7 +83,7 @@ fn test_number(yard: Yard, places: usize, units: &[u8]) -> u8
     let memories = good_units(units, held.shape);
     let layouts = is_good(held) & good_clients(clients);
     let table = pick(
-        (places != 32) | (32 < yard.count),
+        (places != Yard::LETTERS) | (Yard::MOST < yard.count),
         Answer::BAG_FULL,
         Answer::FINE,
     );

@@ -31,7 +31,7 @@ use rule::Yard;
 use sequencer::Sequencer;
 
 // Does it ask a unit that there is not, or one that has stopped?
-fn is_unserved(stopped: [bool; 8], ask: Ask) -> bool
+fn is_unserved(stopped: [bool; Yard::UNITS], ask: Ask) -> bool
     ensures { λ r. ⌜ r ≡ unserved stopped ask ⌝ }
 {
     match ask {
@@ -95,7 +95,7 @@ fn hands(
     if !is_client(stamp.client) | is_unserved(stopped, ask) {
         return refused(yard, seq, Answer::NOBODY);
     }
-    if 32 < count_after(yard.count, keeps, keeps_answer) {
+    if Yard::LETTERS < count_after(yard.count, keeps, keeps_answer) {
         return refused(yard, seq, Answer::BAG_FULL);
     }
     let service = serve(yard, seq, units, ask, page, layout);
@@ -122,7 +122,7 @@ fn returns_to(yard: Yard, seq: Sequencer, keeps: bool, l: Letter, reply: Reply) 
     };
     let turn = take(c, client, stamp, response);
     let act = turn.act;
-    if 32 < count_after(yard.count, keeps, is_sending(act)) {
+    if Yard::LETTERS < count_after(yard.count, keeps, is_sending(act)) {
         return refused(yard, seq, Answer::BAG_FULL);
     }
     turned(yard, seq, keeps, c, turn)

@@ -17,6 +17,7 @@ use rule::Letter;
 use rule::Made;
 use rule::Yard;
 use sequencer::Sequencer;
+use unit::memory::Unit;
 
 // Besides, the sequencer afterwards, and how many places of the table become blank.
 pub(crate) struct Prepared {
@@ -31,12 +32,12 @@ fn fresh_units(units: &mut [u8], shape: u8)
     requires { ⌜ shape ≤ lastShape ⌝ }
     ensures { λ _. ⌜ now (units .exit) ≡ unitsBytes (shapeFor shape) (freshUnits 1 8) ⌝ }
 {
-    let mut i: usize = 8;
+    let mut i: usize = Yard::UNITS;
     while 0 < i {
         i -= 1;
-        let start = i * 6168;
-        let end = start + 6168;
-        unit::fresh::fresh(&mut units[start..end], (i + 1) as u32, shape);
+        let start = i * Unit::SIZE;
+        let end = start + Unit::SIZE;
+        Unit::fresh(&mut units[start..end], (i + 1) as u32, shape);
     }
 }
 
@@ -47,8 +48,8 @@ fn fresh_yard(held: Layout) -> Yard
     let client = Client::fresh();
     Yard {
         held,
-        clients: [client; 4],
-        stopped: [false; 8],
+        clients: [client; Yard::CLIENTS],
+        stopped: [false; Yard::UNITS],
         count: 0,
     }
 }
@@ -59,7 +60,7 @@ fn fresh_number(held: Layout, places: usize, size: usize) -> u8
 {
     let epoch = held.epoch;
     let good = is_good(held) & (epoch.0 == 1);
-    let table = pick(places != 32, Answer::BAG_FULL, Answer::FINE);
+    let table = pick(places != Yard::LETTERS, Answer::BAG_FULL, Answer::FINE);
     pick(
         size != 49344,
         Answer::MEMORY,
@@ -88,7 +89,7 @@ pub(crate) fn prepare(held: Layout, seq: Sequencer, places: usize, units: &mut [
     Prepared {
         made,
         sequencer,
-        blanks: 32,
+        blanks: Yard::LETTERS,
     }
 }
 

@@ -61,7 +61,7 @@ pub(crate) fn refused(yard: Yard, seq: Sequencer, number: u8) -> Moves
 pub(crate) fn is_client(c: u8) -> bool
     ensures { λ r. ⌜ r ≡ isClient c ⌝ }
 {
-    (1 <= c) & (c <= 4)
+    (1 <= c) & (c <= Yard::LAST_CLIENT)
 }
 
 pub(crate) fn client_of(yard: Yard, c: u8) -> Client

@@ -23,6 +23,7 @@ use client::begin::ready_answer;
 use client::begin::restart;
 use client::job::job_answer;
 use client::state::Job;
+use layout::Layout;
 use num::answer::Answer;
 use num::answer::pick;
 use num::bytes::size;
@@ -30,7 +31,7 @@ use rule::Yard;
 use sequencer::Sequencer;
 use sequencer::forget_step;
 
-// 18, 19, 16, 2 or 3, in this order.
+// 18, 19, 16, 2, 3 or 10, in this order.
 fn begin_number(client: Client, count: u8, job: Job, shape: u8) -> u8
     ensures { λ r. ⌜ r ≡ lowest (readyChecks client ++ (16 if leb 32 count ∷ jobChecks job shape)) ⌝ }
 {
@@ -39,7 +40,7 @@ fn begin_number(client: Client, count: u8, job: Job, shape: u8) -> u8
     pick(
         ready != 0,
         ready,
-        pick(32 <= count, Answer::BAG_FULL, asked),
+        pick(Yard::MOST <= count, Answer::BAG_FULL, asked),
     )
 }
 
@@ -72,13 +73,13 @@ pub(crate) fn drops(yard: Yard, seq: Sequencer, i: u8) -> Moves
 }
 
 // Is there such a unit, and has it not stopped?
-pub(crate) fn is_running(stopped: [bool; 8], u: u8) -> bool
+pub(crate) fn is_running(stopped: [bool; Yard::UNITS], u: u8) -> bool
     ensures { λ r. ⌜ r ≡ running stopped u ⌝ }
 {
     if u < 1 {
         return false;
     }
-    if 8 < u {
+    if Layout::LAST_UNIT < u {
         return false;
     }
     let at = size(u) - 1;

@@ -14,6 +14,8 @@ use client::Response;
 use client::UnitAsk;
 use num::bytes::number_at;
 use num::bytes::size;
+use rule::Yard;
+use unit::memory::Unit;
 use unit::memory::is_good;
 
 // Whether a memory is good, of its number and of the yard's shape.
@@ -31,9 +33,9 @@ pub(crate) fn good_units(units: &[u8], shape: u8) -> bool
         return false;
     }
     let mut i: usize = 0;
-    while i < 8 {
-        let start = i * 6168;
-        let end = start + 6168;
+    while i < Yard::UNITS {
+        let start = i * Unit::SIZE;
+        let end = start + Unit::SIZE;
         if !good_unit(&units[start..end], (i + 1) as u64, shape) {
             return false;
         }
@@ -47,7 +49,7 @@ fn start_of(u: u8) -> usize
     requires { ⌜ isUnit u ≡ true ⌝ }
     ensures { λ r. ⌜ (r ≡ (u - 1) * 6168) × (r + 6168 ≤ 49344) ⌝ }
 {
-    (size(u) - 1) * 6168
+    (size(u) - 1) * Unit::SIZE
 }
 
 // A request at the unit `u`, of the shape that the first memory names.
@@ -59,6 +61,6 @@ pub(crate) fn at_unit(units: &mut [u8], u: u8, ask: UnitAsk, page: Page) -> Resp
         (unitAfter (shapeOf (now (units .entry))) (unitOf (shapeOf (now (units .entry))) (now (units .entry)) u) ask page) r (now (units .exit)) ⌝ }
 {
     let start = start_of(u);
-    let end = start + 6168;
+    let end = start + Unit::SIZE;
     ask_unit(&mut units[start..end], ask, page)
 }

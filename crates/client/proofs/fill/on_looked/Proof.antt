@@ -16,23 +16,13 @@ otherwise-requires c κs = search needs
 returns : tie.Need-returns
 returns c = rw (c .otherwise .ensures, c .before .number-of .ensures, not-shown _ (c .before .before .match .keys2))
 
-carrying-requires : tie.Need-carrying-requires
-carrying-requires c κs = search needs
-
-fills-on-requires : tie.Need-fills-on-requires
-fills-on-requires c κs = search needs
+page-carried-requires : tie.Need-page-carried-requires
+page-carried-requires c κs = search needs
 
 returns-2 : tie.Need-returns-2
-returns-2 c = rw (c .fills-on .ensures, c .before .carrying .ensures, c .before .before .enum-told .given .1)
+returns-2 c = rw (c .page-carried .ensures, c .before .enum-told .given .1)
 
 pub on-looked-spec : {M : Type 1} → statement M
 on-looked-spec =
     tie.close
-    (tie.spec
-    enum-told
-    number-of-requires
-    otherwise-requires
-    returns
-    carrying-requires
-    fills-on-requires
-    returns-2)
+    (tie.spec enum-told number-of-requires otherwise-requires returns page-carried-requires returns-2)

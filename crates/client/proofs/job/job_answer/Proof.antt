@@ -9,16 +9,31 @@ is-past-requires c κs = search needs
 is-too-long-requires : tie.Need-is-too-long-requires
 is-too-long-requires c κs = search needs
 
+has-too-many-drops-requires : tie.Need-has-too-many-drops-requires
+has-too-many-drops-requires c κs = search needs
+
 pick-requires : tie.Need-pick-requires
 pick-requires c κs = search needs
 
 pick-requires-2 : tie.Need-pick-requires-2
 pick-requires-2 c κs = search needs
 
+pick-requires-3 : tie.Need-pick-requires-3
+pick-requires-3 c κs = search needs
+
 returns : tie.Need-returns
-returns c = rw (c .pick2 .ensures, c .before .pick .ensures, c .before .before .is-too-long .ensures, c .before .before .before .is-past .ensures)
+returns c =
+    let drops = c .before .before .before in
+    rw (c .pick3 .ensures, c .before .pick2 .ensures, c .before .before .pick .ensures, drops .has-too-many-drops .ensures, drops .before .before .is-too-long .ensures, drops .before .before .before .is-past .ensures)
 
 pub job-answer-spec : {M : Type 1} → statement M
 job-answer-spec =
     tie.close
-    (tie.spec is-past-requires is-too-long-requires pick-requires pick-requires-2 returns)
+    (tie.spec
+    is-past-requires
+    is-too-long-requires
+    has-too-many-drops-requires
+    pick-requires
+    pick-requires-2
+    pick-requires-3
+    returns)

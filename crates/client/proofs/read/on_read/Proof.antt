@@ -16,13 +16,13 @@ otherwise-requires c κs = search needs
 returns : tie.Need-returns
 returns c = rw (c .otherwise .ensures, c .before .number-of .ensures, not-shown _ (c .before .before .match .keys2))
 
-over-requires : tie.Need-over-requires
-over-requires c κs = search needs
+page-taken-requires : tie.Need-page-taken-requires
+page-taken-requires c κs = search needs
 
 returns-2 : tie.Need-returns-2
-returns-2 c = rw (c .over .ensures, c .before .enum-told .given .1)
+returns-2 c = rw (c .page-taken .ensures, c .before .enum-told .given .1)
 
 pub on-read-spec : {M : Type 1} → statement M
 on-read-spec =
     tie.close
-    (tie.spec enum-told number-of-requires otherwise-requires returns over-requires returns-2)
+    (tie.spec enum-told number-of-requires otherwise-requires returns page-taken-requires returns-2)

@@ -18,8 +18,8 @@ on-fetched-requires c κs = search needs
 enum-known-stage : tie.Need-enum-known-stage
 enum-known-stage c = search needs
 
-worked-requires : tie.Need-worked-requires
-worked-requires c κs = search needs
+works-on-requires : tie.Need-works-on-requires
+works-on-requires c κs = search needs
 
 returns : tie.Need-returns
 returns c = rw (c .rests .ensures, c .before .enum-told .given .1)
@@ -28,7 +28,7 @@ returns-2 : tie.Need-returns-2
 returns-2 c = rw (c .on-fetched .ensures, c .before .enum-told2 .given .1)
 
 returns-3 : tie.Need-returns-3
-returns-3 c = rw (c .worked .ensures, c .before .before .stage .given .1)
+returns-3 c = rw (c .works-on .ensures, c .before .before .stage .given .1)
 
 pub answered-spec : {M : Type 1} → statement M
 answered-spec =
@@ -39,7 +39,7 @@ answered-spec =
     enum-told-2
     on-fetched-requires
     enum-known-stage
-    worked-requires
+    works-on-requires
     returns
     returns-2
     returns-3)
