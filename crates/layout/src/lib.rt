@@ -49,9 +49,11 @@ impl Chain {
     pub const MOST: u8 = 4;
 }
 
-impl Layout {
-    pub const UNITS: usize = 8;
+impl Wish {
+    pub const MOST: u8 = 16;
+}
 
+impl Layout {
     pub const SETS: usize = 16;
 
     pub const RANGES: usize = 8;

@@ -180,7 +180,7 @@ fn put_reorganise(out: &mut [u8], at: usize, client: u8, change: Change) -> usiz
 {
     let n = size(change.count);
     let wish = change.wish;
-    if (Change::DROPS < n) | (16 < wish.count) {
+    if (Change::DROPS < n) | (Wish::MOST < wish.count) {
         return 0;
     }
     let new = measure(wish);

@@ -11,6 +11,8 @@ ghost use Rattle.unit.specs.Zeros.{zeros, ruler};
 ghost use Rattle.unit.specs.Memory.{goodFields, goodSlots, goodHeader, good as goodMemory};
 use crate::field::number_at;
 use crate::field::zeros_at;
+use crate::offset::Header;
+use crate::offset::Slot;
 use crate::shape::Shape;
 use crate::shape::shape_of;
 use crate::store::put_zeros;
@@ -27,9 +29,7 @@ impl Unit {
     // The same, as the byte that a memory has.
     pub const LAST: u8 = 8;
 
-    // Bytes of the header, and of the whole memory in either shape.
-    pub const HEADER: usize = 24;
-
+    // Bytes of the whole memory, in either shape.
     pub const SIZE: usize = 6168;
 }
 
@@ -88,14 +88,14 @@ fn good_header(mem: &[u8], sh: Shape) -> bool
     requires { ⌜ (24 ≤ length (now mem)) × (sh .room < 65536) ⌝ }
     ensures { λ r. ⌜ r ≡ goodHeader sh (now (mem .entry)) ⌝ }
 {
-    let number = mem[0];
-    let code = mem[1];
+    let number = mem[Header::NUMBER];
+    let code = mem[Header::SHAPE];
     (1 <= number)
         & (number <= Unit::LAST)
         & (code == sh.code)
         & (pair_at(mem, 2) == 0)
-        & (word_at(mem, 8) <= Position::LIMIT)
-        & (word_at(mem, 16) <= sh.room)
+        & (word_at(mem, Header::FLOOR) <= Position::LIMIT)
+        & (word_at(mem, Header::COUNT) <= sh.room)
 }
 
 // Whether `count` good slots stand behind the header, in rising position from `low` on, and zeros after them. No early exit, and a sum for each of the first
@@ -107,7 +107,7 @@ fn slots_good(mem: &[u8], cap: usize, count: u64, low: u64, full: &[u8]) -> bool
 {
     let mut left = count;
     let mut least = low;
-    let mut at: usize = 24;
+    let mut at: usize = Header::SIZE;
     let mut faults: u64 = 0;
     let mut a: u64 = 0;
     let mut b: u64 = 0;
@@ -115,17 +115,17 @@ fn slots_good(mem: &[u8], cap: usize, count: u64, low: u64, full: &[u8]) -> bool
     let mut d: u64 = 0;
     while 0 < left {
         let next = std::num::wrapping_add_u64(word_at(mem, at), 1);
-        let tag = word_at(mem, at + 8);
+        let tag = word_at(mem, at + Slot::KIND);
         let t = std::num::wrapping_sub_u64(tag, 1);
         let k = 128 - length_of(tag, t);
-        let rest = joined(mem, at + 48, cap - 32, full, k + 32);
+        let rest = joined(mem, at + 48, cap - Shape::SMALL_PAYLOAD, full, k + 32);
         faults = faults + fault((least < next) & good_tag(cap, tag, t) & (rest == 0));
-        a = a | masked(mem, at + 16, full, k);
+        a = a | masked(mem, at + Slot::PAYLOAD, full, k);
         b = b | masked(mem, at + 24, full, k + 8);
         c = c | masked(mem, at + 32, full, k + 16);
         d = d | masked(mem, at + 40, full, k + 24);
         least = next;
-        at += 16 + cap;
+        at += Slot::PAYLOAD + cap;
         left -= 1;
     }
     (faults == 0)
@@ -155,5 +155,10 @@ pub fn is_good(mem: &[u8]) -> bool
     if !good_header(mem, sh) {
         return false;
     }
-    good_slots(mem, sh.cap, number_at(mem, 16, 2), number_at(mem, 8, 8))
+    good_slots(
+        mem,
+        sh.cap,
+        number_at(mem, Header::COUNT, Header::COUNT_WIDTH),
+        number_at(mem, Header::FLOOR, Header::FLOOR_WIDTH),
+    )
 }
