@@ -25,9 +25,9 @@
  *   - No pointer may be NULL, data neither when data_len is 0: then point it to anything.
  *   - data, kind, start, length and edge lie outside mem, and apart from each other.
  *   - Nothing is locked: while a call runs, nobody else may touch mem.
- *   - No call takes more than 512 bytes of stack (docs/SPEED.md). unit_fresh, unit_write, unit_trim and unit_prune call
- *     memset: on a small stack link that statically or with -z now, since a loader that binds it at the first call takes
- *     over 2 KiB.
+ *   - No call takes more than 512 bytes of stack (docs/SPEED.md). unit_fresh and unit_prune call memset, unit_write and
+ *     unit_trim memmove: on a small stack link these statically or with -z now, since a loader that binds one at its first
+ *     call takes over 2 KiB.
  */
 #ifndef STATION_H
 #define STATION_H

@@ -1,11 +1,10 @@
--- Laws of a client between two turns: with no operation, in its next life, waiting for an answer; and of the edges that it is told.
+-- Laws of a client between two turns: with no operation, in its next life, waiting for an answer.
 use mathlib.Core.Path.{_≡_, refl}
 use mathlib.Core.Bool.{true, _&&_}
 use Prim.Native.Nat.{ℕ, _+_, _≤_, _<_}
 use native.Mathlib.Omega.{arith}
 use lib.Dec.{eqb}
 use borrow.Author.Tests.{eq-eqb, eqb-true}
-use Rattle.num.specs.declared.Position.{Position}
 use Rattle.num.specs.declared.Request.{Request}
 use Rattle.num.proofs.Tests.{and-both}
 use Rattle.client.specs.declared.Stamp.{Stamp}
@@ -13,7 +12,6 @@ use Rattle.client.specs.declared.Stage.the-variants.{Idle}
 use Rattle.client.specs.declared.Client.{Client}
 use Rattle.client.specs.Client.{lastLife, idle}
 use Rattle.client.specs.Begin.{restarted}
-use Rattle.client.specs.Reorganise.{larger}
 use Rattle.client.specs.Take.{awaited}
 use Rattle.client.proofs.Cases.{if-within}
 
@@ -54,18 +52,3 @@ module _ (me : ℕ) (c : Client) (s : Stamp) where
   pub is-awaited : Awaited me c s → awaited me c s ≡ true
   unfolding awaited
   is-awaited a = rw (eq-eqb (s .client) me (a .client-is), eq-eqb (s .life) (c .life) (a .life-is), eq-eqb (s .number .0) (c .used .0) (a .number-is))
-
--- ---- the larger of two edges
-
-module _ (a b : Position) where
-  pub larger-left : a .0 ≤ larger a b .0
-  unfolding larger
-  larger-left = if-within (λ (x : Position). a .0 ≤ x .0) (a .0) (b .0) (λ le. le) (λ lt. omega arith)
-
-  pub larger-right : b .0 ≤ larger a b .0
-  unfolding larger
-  larger-right = if-within (λ (x : Position). b .0 ≤ x .0) (a .0) (b .0) (λ le. omega arith) (λ lt. omega arith)
-
-  pub larger-within : (n : ℕ) → a .0 ≤ n → b .0 ≤ n → larger a b .0 ≤ n
-  unfolding larger
-  larger-within n left right = if-within (λ (x : Position). x .0 ≤ n) (a .0) (b .0) (λ le. right) (λ lt. left)

@@ -1,5 +1,7 @@
 pub mod Pages
 pub mod Answers
+pub mod Works
+pub mod Phases
 pub mod Cases
 pub mod Clients
 pub mod Turns

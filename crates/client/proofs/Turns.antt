@@ -6,7 +6,9 @@ use native.Mathlib.Omega.{arith}
 use borrow.Author.Tests.{eqb-false, ne-eqb, le-ltb}
 use lib.Dec.{eqb, ltb}
 use Rattle.num.specs.Limits.{limit}
+use Rattle.num.specs.declared.Edges.{Edges}
 use Rattle.num.specs.declared.Position.{Position}
+use Rattle.num.specs.Edges.{noEdges, largest, within}
 use Rattle.num.proofs.Tests.{false-true, or-false}
 use Rattle.layout.specs.declared.Layout.{Layout}
 use Rattle.layout.specs.Value.{goodValue}
@@ -29,7 +31,7 @@ use Rattle.client.specs.Append.{draws, writes, writesAt, writesOn, notAt
 use Rattle.client.specs.Read.{pageTaken}
 use Rattle.client.specs.Fill.{fills, looks, fillsOn, notFilled, pageCarried}
 use Rattle.client.specs.Trim.{trims, trimsOn, prunes, prunesOn}
-use Rattle.client.specs.Reorganise.{seals, offers, allSealed, sealsOn, reorganises, larger, edgeTaken, notStarted}
+use Rattle.client.specs.Reorganise.{seals, offers, allSealed, sealsOn, reorganises, edgesTaken, notStarted}
 use Rattle.client.specs.Take.{goesOn, holds, worked, worksOn, answered, awaited, takes}
 use Rattle.client.proofs.Cases.{either, if-equal, if-below, if-within}
 use Rattle.client.proofs.Clients.{Awaited, awaited-by, is-awaited}
@@ -105,19 +107,19 @@ module _ (P : Turn → Type 0) (c : Client) where
 
   -- ---- reorganise
 
-  pub plan-cases : (planFor c .answer ≡ 0 → P (sealsOn (planning c (planFor c .layout)) 0 (record { 0 = 0 }))) → (¬ (planFor c .answer ≡ 0) → P (ends c (planFor c .answer))) → P (reorganises c)
+  pub plan-cases : (planFor c .answer ≡ 0 → P (sealsOn (planning c (planFor c .layout)) 0 noEdges)) → (¬ (planFor c .answer ≡ 0) → P (ends c (planFor c .answer))) → P (reorganises c)
   unfolding reorganises
   plan-cases on over = if-equal P (planFor c .answer) 0 on over
 
-  pub seal-cases : (u : ℕ) (e : Position) → (unitAbove (c .plan) u ≡ 0 → P (allSealed c e)) → (¬ (unitAbove (c .plan) u ≡ 0) → P (seals c (unitAbove (c .plan) u) e)) → P (sealsOn c u e)
+  pub seal-cases : (u : ℕ) (e : Edges) → (unitAbove (c .plan) u ≡ 0 → P (allSealed c e)) → (¬ (unitAbove (c .plan) u ≡ 0) → P (seals c (unitAbove (c .plan) u) e)) → P (sealsOn c u e)
   unfolding sealsOn
   seal-cases u e all on = if-equal P (unitAbove (c .plan) u) 0 all on
 
-  pub edge-cases : (u : ℕ) (e x : Position) → (x .0 ≤ limit → P (sealsOn c u (larger e x))) → (limit < x .0 → P (rests c)) → P (edgeTaken c u e x)
-  unfolding edgeTaken
-  edge-cases u e x on quiet = if-within P (x .0) limit on quiet
+  pub edges-cases : (u : ℕ) (e x : Edges) → (within x ≡ true → P (sealsOn c u (largest e x))) → (within x ≡ false → P (rests c)) → P (edgesTaken c u e x)
+  unfolding edgesTaken
+  edges-cases u e x on quiet = either P (within x) on quiet
 
-  pub start-cases : (e : Position) → (startFor c e .answer ≡ 0 → P (offers (planning c (startFor c e .layout)) (startFor c e .first))) → (¬ (startFor c e .answer ≡ 0) → P (ends c (startFor c e .answer))) →
+  pub start-cases : (e : Edges) → (startFor c e .answer ≡ 0 → P (offers (planning c (startFor c e .layout)) (startFor c e .first))) → (¬ (startFor c e .answer ≡ 0) → P (ends c (startFor c e .answer))) →
       P (allSealed c e)
   unfolding allSealed
   start-cases e on over = if-equal P (startFor c e .answer) 0 on over

@@ -10,3 +10,4 @@ pub mod Fill
 pub mod Trim
 pub mod Reorganise
 pub mod Take
+pub mod InsideRequest

@@ -3,6 +3,7 @@ use Prim.Native.Nat.{ℕ}
 use mathlib.Core.Bool.{Bool, cond, _&&_, _||_}
 use lib.Dec.{eqb, leb, ltb}
 use lib.ListN.{replicate}
+use Rattle.num.specs.declared.Edges.{Edges}
 use Rattle.num.specs.declared.Position.{Position}
 use Rattle.layout.specs.declared.Layout.{Layout}
 use Rattle.layout.specs.Value.{blank}
@@ -12,7 +13,7 @@ use Rattle.client.specs.declared.Ask.the-variants.{Fetch, Offer}
 use Rattle.client.specs.declared.Query.{Query}
 use Rattle.client.specs.declared.Reply.{Reply}
 use Rattle.client.specs.declared.Response.{Response}
-use Rattle.client.specs.declared.Reply.the-variants.{Held, Given, Fine, Shown, Edge, Refused}
+use Rattle.client.specs.declared.Reply.the-variants.{Held, Given, Fine, Shown, Edged, Refused}
 
 -- a page has room for 80 bytes, whatever the yard's shape
 abbrev pub pageLimit : ℕ
@@ -62,7 +63,7 @@ numberOf Held = 0
 numberOf (Given p) = 0
 numberOf Fine = 0
 numberOf Shown = 0
-numberOf (Edge p) = 0
+numberOf (Edged e) = 0
 numberOf (Refused n) = n
 
 -- the last number that a machine gives: a unit 1 to 8, the sequencer 2, 4 and 9, the holder 10 to 12 (docs/RULES.md, 10)
@@ -80,7 +81,7 @@ ifHeld Held a d = a
 ifHeld (Given p) a d = d
 ifHeld Fine a d = d
 ifHeld Shown a d = d
-ifHeld (Edge p) a d = d
+ifHeld (Edged e) a d = d
 ifHeld (Refused n) a d = d
 
 abbrev pub ifGiven : {A : Type 0} → Reply → (Position → A) → A → A
@@ -88,7 +89,7 @@ ifGiven Held f d = d
 ifGiven (Given p) f d = f p
 ifGiven Fine f d = d
 ifGiven Shown f d = d
-ifGiven (Edge p) f d = d
+ifGiven (Edged e) f d = d
 ifGiven (Refused n) f d = d
 
 abbrev pub ifFine : {A : Type 0} → Reply → A → A → A
@@ -96,7 +97,7 @@ ifFine Held a d = d
 ifFine (Given p) a d = d
 ifFine Fine a d = a
 ifFine Shown a d = d
-ifFine (Edge p) a d = d
+ifFine (Edged e) a d = d
 ifFine (Refused n) a d = d
 
 abbrev pub ifShown : {A : Type 0} → Reply → A → A → A
@@ -104,13 +105,13 @@ ifShown Held a d = d
 ifShown (Given p) a d = d
 ifShown Fine a d = d
 ifShown Shown a d = a
-ifShown (Edge p) a d = d
+ifShown (Edged e) a d = d
 ifShown (Refused n) a d = d
 
-abbrev pub ifEdge : {A : Type 0} → Reply → (Position → A) → A → A
-ifEdge Held f d = d
-ifEdge (Given p) f d = d
-ifEdge Fine f d = d
-ifEdge Shown f d = d
-ifEdge (Edge p) f d = f p
-ifEdge (Refused n) f d = d
+abbrev pub ifEdged : {A : Type 0} → Reply → (Edges → A) → A → A
+ifEdged Held f d = d
+ifEdged (Given p) f d = d
+ifEdged Fine f d = d
+ifEdged Shown f d = d
+ifEdged (Edged e) f d = f e
+ifEdged (Refused n) f d = d

@@ -2,7 +2,7 @@
 use Prim.Native.Nat.{ℕ}
 use mathlib.Core.List.{List}
 use lib.ListN.{take}
-use Rattle.num.specs.declared.Position.{Position}
+use Rattle.num.specs.declared.Edges.{Edges}
 use Rattle.layout.specs.declared.Layout.{Layout}
 use Rattle.layout.specs.declared.plan.Planned.{Planned}
 use Rattle.layout.specs.declared.plan.Started.{Started}
@@ -40,6 +40,6 @@ dropsOf h = take (h .count) (h .drops)
 abbrev pub planFor : Client → Planned
 planFor c = plannedFor (c .layout) (dropsOf (c .change)) (c .change .wish)
 
--- 9; or 0, the new layout whole, and where the sequencer is started. e is the largest edge
-abbrev pub startFor : Client → Position → Started
-startFor c e = startedAt (c .plan) (e .0)
+-- 9; or 0, the new layout whole, and where the sequencer is started. e are the largest edges
+abbrev pub startFor : Client → Edges → Started
+startFor c e = startedAt (c .plan) e

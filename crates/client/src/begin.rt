@@ -1,5 +1,10 @@
 // An operation begins, is given up, or is forgotten with the client's life.
 ghost use mathlib.Core.Path.{_≡_};
+ghost use mathlib.Core.Bool.{cond};
+ghost use lib.Dec.{eqb};
+ghost use Rattle.client.specs.declared.Ask.the-variants.{Fetch};
+ghost use Rattle.client.specs.Message.{plain};
+ghost use Rattle.client.specs.Turn.{rests, sends};
 ghost use Rattle.client.specs.Begin.{readyAnswer, beginAnswer, withJob, beginStep, giveUp, restartStep};
 use crate::Ask;
 use crate::Client;
@@ -88,15 +93,20 @@ pub(crate) fn with_job(client: Client, job: Job) -> Client
 }
 
 // Every operation first fetches the layout. A refusal uses no number and sends nothing.
+fn begin_turn(client: Client, job: Job, answer: u8) -> Turn
+    ensures { λ r. ⌜ r ≡ cond (eqb answer 0) (sends (withJob client job) (plain Fetch)) (rests client) ⌝ }
+{
+    if answer != 0 {
+        return rests(client);
+    }
+    sends(with_job(client, job), Query::plain(Ask::Fetch))
+}
+
 pub fn begin(client: Client, job: Job, shape: u8) -> Begun
     ensures { λ r. ⌜ r ≡ beginStep client job shape ⌝ }
 {
     let answer = begin_answer(client, job, shape);
-    if answer != 0 {
-        let turn = rests(client);
-        return Begun { answer, turn };
-    }
-    let turn = sends(with_job(client, job), Query::plain(Ask::Fetch));
+    let turn = begin_turn(client, job, answer);
     Begun { answer, turn }
 }
 
@@ -106,10 +116,9 @@ pub fn give_up(client: Client) -> Turn
 {
     let stage = client.stage;
     if stage.is_busy() {
-        ends(client, Answer::UNKNOWN)
-    } else {
-        rests(client)
+        return ends(client, Answer::UNKNOWN);
     }
+    rests(client)
 }
 
 // The operation is forgotten, the life is the next, and its numbers are unused.

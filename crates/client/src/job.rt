@@ -19,13 +19,10 @@ use num::bytes::size;
 pub(crate) fn is_past(work: Work) -> bool
     ensures { λ r. ⌜ r ≡ past work ⌝ }
 {
+    let p = position_for(work);
     match work {
-        Work::Append => false,
-        Work::Read(p) => Position::LIMIT <= p.0,
-        Work::Fill(p) => Position::LIMIT <= p.0,
-        Work::Trim(p) => Position::LIMIT <= p.0,
-        Work::Prune(p) => Position::LIMIT < p.0,
-        Work::Reorganise => false,
+        Work::Prune(_) => Position::LIMIT < p.0,
+        _ => Position::LIMIT <= p.0,
     }
 }
 
@@ -42,11 +39,7 @@ pub(crate) fn is_too_long(work: Work, len: u8, shape: u8) -> bool
 {
     match work {
         Work::Append => data_limit(shape) < len,
-        Work::Read(_) => false,
-        Work::Fill(_) => false,
-        Work::Trim(_) => false,
-        Work::Prune(_) => false,
-        Work::Reorganise => false,
+        _ => false,
     }
 }
 
@@ -55,12 +48,8 @@ pub(crate) fn has_too_many_drops(work: Work, count: u8) -> bool
     ensures { λ r. ⌜ r ≡ tooManyDrops work count ⌝ }
 {
     match work {
-        Work::Append => false,
-        Work::Read(_) => false,
-        Work::Fill(_) => false,
-        Work::Trim(_) => false,
-        Work::Prune(_) => false,
         Work::Reorganise => Change::DROPS < size(count),
+        _ => false,
     }
 }
 
@@ -127,11 +116,8 @@ pub(crate) fn page_for(work: Work, len: u8, bytes: [u8; Page::ROOM]) -> Page
 {
     match work {
         Work::Append => data_page(len, bytes),
-        Work::Read(_) => Page::blank(),
         Work::Fill(_) => Page::junk(),
-        Work::Trim(_) => Page::blank(),
-        Work::Prune(_) => Page::blank(),
-        Work::Reorganise => Page::blank(),
+        _ => Page::blank(),
     }
 }
 
@@ -140,11 +126,7 @@ pub(crate) fn change_for(work: Work, change: Change) -> Change
     ensures { λ r. ⌜ r ≡ changeFor work change ⌝ }
 {
     match work {
-        Work::Append => Change::blank(),
-        Work::Read(_) => Change::blank(),
-        Work::Fill(_) => Change::blank(),
-        Work::Trim(_) => Change::blank(),
-        Work::Prune(_) => Change::blank(),
         Work::Reorganise => change,
+        _ => Change::blank(),
     }
 }

@@ -1,6 +1,7 @@
 // A client: one operation and one outstanding request at a time. It knows a unit only through its answers.
 use layout::Layout;
 use layout::Wish;
+use num::Edges;
 use num::Epoch;
 use num::Position;
 use num::Request;
@@ -12,6 +13,7 @@ pub mod job;
 pub mod message;
 pub mod read;
 pub mod reorganise;
+pub mod request;
 pub mod state;
 pub mod take;
 pub mod trim;
@@ -50,13 +52,13 @@ pub struct Query {
     pub layout: Layout,
 }
 
-// What was answered: a layout is held, a token given, the work done, a page shown, an edge told, or a number.
+// What was answered: a layout is held, a token given, the work done, a page shown, a unit's edges told, or a number.
 pub enum Reply {
     Held,
     Given(Position),
     Fine,
     Shown,
-    Edge(Position),
+    Edged(Edges),
     Refused(u8),
 }
 
@@ -92,7 +94,7 @@ pub struct Change {
 }
 
 // What the outstanding request is once the layout is fetched, with the unit it went to, the tokens taken so far,
-// the largest edge so far, and where the sequencer is to start.
+// the largest edges so far, and where the sequencer is to start.
 pub enum Phase {
     Drawing(u8),
     Writing(u8, u8),
@@ -101,7 +103,7 @@ pub enum Phase {
     Looking(u8),
     Trimming(u8),
     Pruning(u8),
-    Sealing(u8, Position),
+    Sealing(u8, Edges),
     Offering(Position),
     Starting,
 }

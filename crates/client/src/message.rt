@@ -121,11 +121,7 @@ pub fn number_of(reply: Reply) -> u8
     ensures { λ r. ⌜ r ≡ numberOf reply ⌝ }
 {
     match reply {
-        Reply::Held => 0,
-        Reply::Given(_) => 0,
-        Reply::Fine => 0,
-        Reply::Shown => 0,
-        Reply::Edge(_) => 0,
         Reply::Refused(n) => n,
+        _ => 0,
     }
 }

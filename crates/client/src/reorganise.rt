@@ -1,13 +1,13 @@
 // Reorganise: seal every unit of the new layout with the held epoch, in rising number; offer the layout; start the sequencer.
 ghost use mathlib.Core.Path.{_≡_};
-ghost use Rattle.client.specs.Reorganise.{seals, offers, allSealed, sealsOn, reorganises, larger, edgeTaken, onSealed, starts, onOffered, notStarted, onStarted};
+ghost use Rattle.client.specs.Reorganise.{allSealed, sealsOn, reorganises, onSealed, onOffered, onStarted};
 use crate::Ask;
 use crate::Client;
 use crate::Phase;
 use crate::Query;
 use crate::Reply;
-use crate::UnitAsk;
 use crate::message::number_of;
+use crate::request::asks;
 use crate::turn::Turn;
 use crate::turn::ends;
 use crate::turn::otherwise;
@@ -16,53 +16,39 @@ use crate::turn::sends;
 use crate::way::plan_for;
 use crate::way::start_for;
 use crate::way::unit_above;
+use num::Edges;
 use num::Position;
 use num::answer::Answer;
+use num::largest::largest;
+use num::largest::within;
 
-// Seals a unit with the held epoch; `edge` is the largest so far.
-pub(crate) fn seals(c: Client, unit: u8, edge: Position) -> Turn
-    ensures { λ r. ⌜ r ≡ seals c unit edge ⌝ }
+// The new range, if any, gets its start from the largest edges; the layout is offered.
+pub(crate) fn all_sealed(c: Client, edges: Edges) -> Turn
+    ensures { λ r. ⌜ r ≡ allSealed c edges ⌝ }
 {
-    let held = c.layout;
-    let epoch = held.epoch;
-    sends(
-        c.in_phase(Phase::Sealing(unit, edge)),
-        Query::plain(Ask::Unit(unit, UnitAsk::Seal(epoch))),
-    )
-}
-
-// Offers the layout; `start` is where the sequencer is to start.
-pub(crate) fn offers(c: Client, start: Position) -> Turn
-    ensures { λ r. ⌜ r ≡ offers c start ⌝ }
-{
-    let plan = c.plan;
-    sends(c.in_phase(Phase::Offering(start)), Query::offering(plan))
-}
-
-// The new range, if any, gets its start from the largest edge.
-pub(crate) fn all_sealed(c: Client, edge: Position) -> Turn
-    ensures { λ r. ⌜ r ≡ allSealed c edge ⌝ }
-{
-    let started = start_for(c, edge);
+    let started = start_for(c, edges);
     if started.answer != 0 {
         return ends(c, started.answer);
     }
     let plan = started.layout;
     let first = started.first;
-    offers(c.planning(plan), first)
+    let planned = c.planning(plan);
+    sends(
+        planned.in_phase(Phase::Offering(first)),
+        Query::offering(plan),
+    )
 }
 
-// Every unit of the new layout, in rising number; new units too.
-pub(crate) fn seals_on(c: Client, unit: u8, edge: Position) -> Turn
-    ensures { λ r. ⌜ r ≡ sealsOn c unit edge ⌝ }
+// Every unit of the new layout, in rising number; new units too. `edges` are the largest so far.
+pub(crate) fn seals_on(c: Client, unit: u8, edges: Edges) -> Turn
+    ensures { λ r. ⌜ r ≡ sealsOn c unit edges ⌝ }
 {
     let plan = c.plan;
     let next = unit_above(plan, unit);
     if next == 0 {
-        all_sealed(c, edge)
-    } else {
-        seals(c, next, edge)
+        return all_sealed(c, edges);
     }
+    asks(c, next, Phase::Sealing(next, edges))
 }
 
 // 15, 10, 13, 14 are checked before anything is sealed.
@@ -74,39 +60,29 @@ pub(crate) fn reorganises(c: Client) -> Turn
         return ends(c, planned.answer);
     }
     let plan = planned.layout;
-    seals_on(c.planning(plan), 0, Position(0))
+    seals_on(c.planning(plan), 0, Edges::none())
 }
 
-pub(crate) fn larger(a: Position, b: Position) -> Position
-    ensures { λ r. ⌜ r ≡ larger a b ⌝ }
+// The answer of a unit that was sealed; edges that no unit tells never answer.
+pub(crate) fn on_sealed(c: Client, unit: u8, edges: Edges, reply: Reply) -> Turn
+    ensures { λ r. ⌜ r ≡ onSealed c unit edges reply ⌝ }
 {
-    if a.0 <= b.0 { b } else { a }
-}
-
-// An edge that no unit tells never answers.
-pub(crate) fn edge_taken(c: Client, unit: u8, edge: Position, told: Position) -> Turn
-    ensures { λ r. ⌜ r ≡ edgeTaken c unit edge told ⌝ }
-{
-    if Position::LIMIT < told.0 {
-        return rests(c);
-    }
-    seals_on(c, unit, larger(edge, told))
-}
-
-// The answer of a unit that was sealed.
-pub(crate) fn on_sealed(c: Client, unit: u8, edge: Position, reply: Reply) -> Turn
-    ensures { λ r. ⌜ r ≡ onSealed c unit edge reply ⌝ }
-{
-    let Reply::Edge(told) = reply else {
+    let Reply::Edged(told) = reply else {
         return otherwise(c, number_of(reply));
     };
-    edge_taken(c, unit, edge, told)
+    if !within(told) {
+        return rests(c);
+    }
+    seals_on(c, unit, largest(edges, told))
 }
 
-// Starts the sequencer at the new epoch.
-pub(crate) fn starts(c: Client, start: Position) -> Turn
-    ensures { λ r. ⌜ r ≡ starts c start ⌝ }
+// The holder's answer; then the sequencer is started at the new epoch.
+pub(crate) fn on_offered(c: Client, start: Position, reply: Reply) -> Turn
+    ensures { λ r. ⌜ r ≡ onOffered c start reply ⌝ }
 {
+    let Reply::Fine = reply else {
+        return otherwise(c, number_of(reply));
+    };
     let plan = c.plan;
     let epoch = plan.epoch;
     sends(
@@ -115,33 +91,16 @@ pub(crate) fn starts(c: Client, start: Position) -> Turn
     )
 }
 
-// The holder's answer.
-pub(crate) fn on_offered(c: Client, start: Position, reply: Reply) -> Turn
-    ensures { λ r. ⌜ r ≡ onOffered c start reply ⌝ }
-{
-    let Reply::Fine = reply else {
-        return otherwise(c, number_of(reply));
-    };
-    starts(c, start)
-}
-
-// The sequencer says 4: somebody else came first.
-pub(crate) fn not_started(c: Client, number: u8) -> Turn
-    ensures { λ r. ⌜ r ≡ notStarted c number ⌝ }
-{
-    if number == Answer::SEALED {
-        ends(c, Answer::OVERTAKEN)
-    } else {
-        otherwise(c, number)
-    }
-}
-
-// The sequencer's answer.
+// The sequencer's answer: 4 where somebody else came first.
 pub(crate) fn on_started(c: Client, reply: Reply) -> Turn
     ensures { λ r. ⌜ r ≡ onStarted c reply ⌝ }
 {
     let Reply::Fine = reply else {
-        return not_started(c, number_of(reply));
+        let number = number_of(reply);
+        if number == Answer::SEALED {
+            return ends(c, Answer::OVERTAKEN);
+        }
+        return otherwise(c, number);
     };
     ends(c, Answer::FINE)
 }

@@ -117,8 +117,7 @@ pub(crate) fn otherwise(client: Client, number: u8) -> Turn
     ensures { λ r. ⌜ r ≡ otherwise client number ⌝ }
 {
     if is_no_refusal(number) {
-        rests(client)
-    } else {
-        ends(client, number)
+        return rests(client);
     }
+    ends(client, number)
 }

@@ -15,7 +15,7 @@ use layout::plan::Planned;
 use layout::plan::Started;
 use layout::plan::plan;
 use layout::plan::with_start;
-use num::Position;
+use num::Edges;
 use num::bytes::size;
 
 // The head of the set of the position under way.
@@ -76,9 +76,9 @@ pub(crate) fn plan_for(c: Client) -> Planned
 }
 
 // 9; or 0, the new layout whole, and where the sequencer is started.
-pub(crate) fn start_for(c: Client, edge: Position) -> Started
-    ensures { λ r. ⌜ r ≡ startFor c edge ⌝ }
+pub(crate) fn start_for(c: Client, edges: Edges) -> Started
+    ensures { λ r. ⌜ r ≡ startFor c edges ⌝ }
 {
     let planned = c.plan;
-    with_start(planned, edge)
+    with_start(planned, edges)
 }

@@ -8,6 +8,7 @@ use borrow.Author.Tests.{eqb-true, eqb-false, not-false, eq-eqb}
 use lib.Dec.{eqb}
 use lib.ListN.{length}
 use lib.Seq.{sets}
+use Rattle.num.specs.declared.Edges.{Edges}
 use Rattle.num.specs.Checks.{lowest}
 use Rattle.num.proofs.Tests.{cond-zero}
 use Rattle.layout.specs.declared.Layout.{Layout}
@@ -18,43 +19,47 @@ use Rattle.layout.specs.Lay.{good}
 use Rattle.layout.specs.Value.{layOf, valueOf, blank, goodValue}
 use Rattle.layout.specs.Codec.{setsSaid, wishSaid, bytesOf, writeRefused, writeAnswer, LayoutWritten}
 use Rattle.layout.specs.Plan.{badDrops, planChecks, planned, plannedFor, newOf, isOpen, newStart, startAnswer, startedAt, reorganiseAnswer}
-use Rattle.layout.proofs.Goodness.{good-says}
-use Rattle.layout.proofs.Values.{value-of-good}
-use Rattle.layout.proofs.Planning.{reorganise-fine}
-use Rattle.layout.proofs.Starting.{started-same}
-use Rattle.layout.proofs.Settling.{startedPlan, plan-started}
+use Rattle.layout.proofs.GoodLay.{good-says}
+use Rattle.layout.proofs.ValueOf.{value-of-good}
+use Rattle.layout.proofs.ReorganiseAnswer.{reorganise-fine}
+use Rattle.layout.proofs.StartedAt.{started-same}
+use Rattle.layout.proofs.StartedPlan.{startedPlan, plan-started}
 use Rattle.desk.specs.Told.{fineSets, planRefusal, madeAnswer, newLayout, planTold}
 use Rattle.desk.specs.InsideMade.{emptyWish, IsMade}
 use Rattle.desk.proofs.Wishes.{wish-answers, wish-news}
 
-blank-started : (edge : ℕ) → startedAt blank edge ≡ record { answer = 0; layout = blank; first = record { 0 = edge } }
+-- the edges that the units are said to have told
+abbrev said : ℕ → Edges
+said edge = record { edge = record { 0 = edge } }
+
+blank-started : (edges : Edges) → startedAt blank edges .layout ≡ blank
 unfolding isOpen layOf
-blank-started edge = sym (started-same blank edge refl)
+blank-started edges = ap (λ (s : Started). s .layout) (sym (started-same blank edges refl))
 
 module _ (held : Layout) (drops new : List ℕ) (edge : ℕ) (w : Wish) (ew : w ≡ cond (badDrops drops (setsSaid new) || not (fineSets new)) emptyWish (wishSaid new)) where
   answers : reorganiseAnswer held drops w ≡ planRefusal held drops new
   answers = wish-answers held drops new w _ refl ew
 
   -- a plan that is fine, its start set
-  fine-started : planRefusal held drops new ≡ 0 → startedAt (plannedFor held drops w .layout) edge ≡ startedPlan (layOf held) drops (setsSaid new) edge
+  fine-started : planRefusal held drops new ≡ 0 → startedAt (plannedFor held drops w .layout) (said edge) ≡ startedPlan (layOf held) drops (setsSaid new) (said edge)
   unfolding plannedFor
   fine-started z =
       let a : reorganiseAnswer held drops w ≡ 0 = answers ∙ z in
       let n = wish-news held drops new w ew z in
       let r = reorganise-fine held drops w a in
       let g = good-says (layOf held) (value-of-good held (r .held-good) .0) in
-      rw (a, n) (plan-started (layOf held) drops (setsSaid new) edge g (rw n at (r .plan)))
+      rw (a, n) (plan-started (layOf held) drops (setsSaid new) (said edge) g (rw n at (r .plan)))
 
-  refused-started : eqb (planRefusal held drops new) 0 ≡ false → startedAt (plannedFor held drops w .layout) edge ≡ record { answer = 0; layout = blank; first = record { 0 = edge } }
+  refused-started : eqb (planRefusal held drops new) 0 ≡ false → startedAt (plannedFor held drops w .layout) (said edge) .layout ≡ blank
   unfolding plannedFor
-  refused-started z = rw (answers, z) (blank-started edge)
+  refused-started z = rw (answers, z) (blank-started (said edge))
 
-  module _ (p : Planned) (s : Started) (answer : ℕ) (ep : p ≡ plannedFor held drops w) (es : s ≡ startedAt (p .layout) edge) (ea : answer ≡ cond (eqb (p .answer) 0) (s .answer) (p .answer)) where
+  module _ (p : Planned) (s : Started) (answer : ℕ) (ep : p ≡ plannedFor held drops w) (es : s ≡ startedAt (p .layout) (said edge)) (ea : answer ≡ cond (eqb (p .answer) 0) (s .answer) (p .answer)) where
     plan-answer : p .answer ≡ planRefusal held drops new
     unfolding plannedFor
     plan-answer = ap (λ (q : Planned). q .answer) ep ∙ answers
 
-    started-as : s ≡ startedAt (plannedFor held drops w .layout) edge
+    started-as : s ≡ startedAt (plannedFor held drops w .layout) (said edge)
     started-as = rw ep at es
 
     pub make-told : IsMade held drops new edge answer (s .layout)
@@ -63,16 +68,15 @@ module _ (held : Layout) (drops new : List ℕ) (edge : ℕ) (w : Wish) (ew : w 
       where
         go : (t : Bool) → eqb (planRefusal held drops new) 0 ≡ t → IsMade held drops new edge answer (s .layout)
         go true e =
-            let st : s ≡ startedPlan (layOf held) drops (setsSaid new) edge = started-as ∙ fine-started (eqb-true _ _ e) in
+            let st : s ≡ startedPlan (layOf held) drops (setsSaid new) (said edge) = started-as ∙ fine-started (eqb-true _ _ e) in
             record {
               answer-is = ea ∙ rw (plan-answer, e) (ap (λ (q : Started). q .answer) st);
               layout-is = rw e (ap (λ (q : Started). q .layout) st);
             }
         go false e =
-            let st : s ≡ record { answer = 0; layout = blank; first = record { 0 = edge } } = started-as ∙ refused-started e in
             record {
               answer-is = ea ∙ rw (plan-answer, e);
-              layout-is = rw (e, e) (ap (λ (q : Started). q .layout) st);
+              layout-is = rw (e, e) (ap (λ (q : Started). q .layout) started-as ∙ refused-started e);
             }
 
 -- ---- its bytes

@@ -10,19 +10,19 @@ use lib.ListN.{length, getD, take, drop, length-map, length-take}
 use lib.Seq.{take-nil, take-all}
 use Rattle.num.specs.Checks.{lowest}
 use Rattle.num.proofs.Tests.{and-both, or-false, cond-zero}
+use Rattle.num.proofs.Bools.{and-intro}
 use Rattle.layout.specs.declared.Layout.{Layout}
 use Rattle.layout.specs.declared.Wish.{Wish}
 use Rattle.layout.specs.Lay.{Lay, goodSet, goodSets, _in?_, inSets, unitLimit, setsLimit}
 use Rattle.layout.specs.Value.{padded, noChain, chainOf, unitsIn, layOf, goodValue, tidyChain}
 use Rattle.layout.specs.Codec.{setsSaid, setsAt, areSets, setsName, wishSaid}
 use Rattle.layout.specs.Plan.{badDrops, newRanges, planChecks, newOf, goodWish, goodChains, reorganiseAnswer}
-use Rattle.layout.proofs.Bools.{and-intro}
-use Rattle.layout.proofs.Goodness.{good-says}
-use Rattle.layout.proofs.Goods.{sets-some}
-use Rattle.layout.proofs.Values.{good-short, sets-back, value-of-good}
-use Rattle.layout.proofs.Parsing.{sets-length}
-use Rattle.layout.proofs.Scanning.{set-tested, all-good}
-use Rattle.layout.proofs.Planning.{checks-fine}
+use Rattle.layout.proofs.GoodLay.{good-says}
+use Rattle.layout.proofs.SetNumber.{sets-some}
+use Rattle.layout.proofs.ValueOf.{good-short, sets-back, value-of-good}
+use Rattle.layout.proofs.SetsAt.{sets-length}
+use Rattle.layout.proofs.AreSets.{set-tested, all-good}
+use Rattle.layout.proofs.ReorganiseAnswer.{checks-fine}
 use Rattle.desk.specs.Told.{fineSets, planRefusal}
 use Rattle.desk.specs.InsideMade.{namedSets, emptyWish}
 

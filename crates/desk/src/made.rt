@@ -13,6 +13,7 @@ use layout::new_sets::sets_name;
 use layout::new_sets::wish_of;
 use layout::plan::plan;
 use layout::plan::with_start;
+use num::Edges;
 use num::Position;
 use num::answer::Answer;
 use num::answer::pick;
@@ -67,7 +68,10 @@ pub(crate) fn make(held: Layout, drops: &[u8], sets: &[u8], edge: u64) -> Made
 {
     let planned = plan(held, drops, wish_for(drops, sets));
     let next = planned.layout;
-    let started = with_start(next, Position(edge));
+    let edges = Edges {
+        edge: Position(edge),
+    };
+    let started = with_start(next, edges);
     let layout = started.layout;
     Made {
         answer: pick(

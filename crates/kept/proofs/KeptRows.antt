@@ -14,7 +14,6 @@ use mir.Val.{Val, WT, hasTy, vint, vstruct, ofList}
 use prog.Wp.{Heap}
 use ghost.Atoms.{Atoms}
 use types.Kit.{Given}
-use denote.RattleType.{RattleType}
 use denote.Shadow.{shadow}
 use denote.Laws.{Is, Makes, Tells}
 use denote.Memory.{lone}

@@ -1,4 +1,4 @@
--- Two lists of bytes that are the same, and a copy to the front of a buffer, one byte a turn.
+-- Laws of `same`: two lists of bytes that are the same.
 use Prim.Native.Nat.{ℕ, _+_, _<_, _≤_}
 use mathlib.Core.Bool.{Bool, true, false, _&&_, and-assoc, and-true}
 use mathlib.Core.List.{List, [], _∷_}
@@ -7,10 +7,11 @@ use native.Mathlib.Numerals.{add-one}
 use native.Mathlib.Omega.{arith}
 use borrow.Author.Tests.{eqb-true, eq-eqb}
 use lib.Dec.{eqb}
-use lib.ListN.{length, getD, take, drop, set, length-set, length-take, drop-of-length-le}
-use lib.Seq.{sets, drop-cons, getD-take}
+use lib.ListN.{length, getD, take, drop, drop-of-length-le}
+use lib.Seq.{drop-cons}
 use Rattle.num.proofs.Tests.{false-true, and-both}
 use Rattle.layout.specs.Codec.{same}
+use Rattle.layout.proofs.Take.{front-step, front-end}
 
 pub same-eq : (xs ys : List ℕ) → same xs ys ≡ true → xs ≡ ys
 unfolding same
@@ -42,15 +43,6 @@ pub record SameSeen (n : ℕ) (xs ys : List ℕ) (i : ℕ) (ok : Bool) : Type 0 
 pub same-none : (n : ℕ) (xs ys : List ℕ) → SameSeen n xs ys 0 true
 same-none n xs ys = record { bound = omega arith; rest = refl }
 
--- the first n entries, from the i-th on
-pub front-step : (n : ℕ) (xs : List ℕ) (i : ℕ) → i < n → n ≤ length xs → drop i (take n xs) ≡ getD xs i 0 ∷ drop (i + 1) (take n xs)
-front-step n xs i h k =
-    let within : i < length (take n xs) = rw length-take (omega arith) in
-    drop-cons (take n xs) i 0 within ∙ rw (getD-take n xs i 0 h, add-one i)
-
-pub front-end : (n : ℕ) (xs : List ℕ) (i : ℕ) → n ≤ i → drop i (take n xs) ≡ []
-front-end n xs i h = drop-of-length-le (take n xs) {i = i} (rw length-take (omega arith))
-
 module _ {n : ℕ} {xs ys : List ℕ} {i : ℕ} {ok : Bool} (s : SameSeen n xs ys i ok) where
   pub same-more : i < n → n ≤ length xs → n ≤ length ys → SameSeen n xs ys (i + 1) (ok && eqb (getD xs i 0) (getD ys i 0))
   unfolding same
@@ -63,24 +55,3 @@ module _ {n : ℕ} {xs ys : List ℕ} {i : ℕ} {ok : Bool} (s : SameSeen n xs y
   same-all h k =
       let y : drop i ys ≡ [] = drop-of-length-le ys {i = i} (omega arith) in
       sym (and-true ok) ∙ (rw (front-end n xs i h, y) at (s .rest))
-
--- ---- the loop that copies the first n of xs
-
-pub record Copying (n : ℕ) (xs before : List ℕ) (i : ℕ) (out : List ℕ) : Type 0 where
-  pub bound : i ≤ n
-  pub rest : sets out i (drop i (take n xs)) ≡ sets before 0 (take n xs)
-  pub as-long : length out ≡ length before
-
-pub copy-none : (n : ℕ) (xs before : List ℕ) → Copying n xs before 0 before
-copy-none n xs before = record { bound = omega arith; rest = refl; as-long = refl }
-
-module _ {n : ℕ} {xs before : List ℕ} {i : ℕ} {out : List ℕ} (s : Copying n xs before i out) where
-  pub copy-more : i < n → n ≤ length xs → Copying n xs before (i + 1) (set out i (getD xs i 0))
-  copy-more h k = record {
-    bound = omega arith;
-    rest = rw (add-one i) (rw (front-step n xs i h k, add-one i) at (s .rest));
-    as-long = length-set out i (getD xs i 0) ∙ s .as-long;
-  }
-
-  pub copy-all : n ≤ i → out ≡ sets before 0 (take n xs)
-  copy-all h = rw (front-end n xs i h) at (s .rest)

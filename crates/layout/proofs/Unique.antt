@@ -4,6 +4,7 @@ use mathlib.Core.Bool.{Bool}
 use mathlib.Core.List.{List}
 use mathlib.Core.Path.{_≡_}
 use lib.ListN.{getD}
+use Rattle.num.specs.declared.Edges.{Edges}
 use Rattle.num.proofs.Unique.{once}
 use Rattle.layout.specs.declared.Layout.{Layout}
 use Rattle.layout.specs.Value.{blank, goodValue, layOf}
@@ -67,10 +68,10 @@ module _ (l : Layout) (p : ℕ) where
   pub unit-after-once : (u : ℕ) {r q : ℕ} → r ≡ after u (unitsAt l p) → q ≡ after u (unitsAt l p) → r ≡ q
   unit-after-once u e f = once e f
 
-  pub with-start-once : {r q : Started} → r ≡ startedAt l p → q ≡ startedAt l p → r ≡ q
-  with-start-once e f = once e f
-
 module _ (held : Layout) where
+  pub with-start-once : (edges : Edges) {r q : Started} → r ≡ startedAt held edges → q ≡ startedAt held edges → r ≡ q
+  with-start-once edges e f = once e f
+
   pub next-unit-once : (u : ℕ) {r q : ℕ} → r ≡ nextUnit (layOf held) u → q ≡ nextUnit (layOf held) u → r ≡ q
   next-unit-once u e f = once e f
 

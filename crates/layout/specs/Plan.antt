@@ -4,6 +4,7 @@ use mathlib.Core.Bool.{Bool, true, false, _&&_, _||_, not, cond}
 use mathlib.Core.List.{List, [], _∷_, _++_, map}
 use lib.Dec.{leb, ltb, eqb}
 use lib.ListN.{length, getD, take, set}
+use Rattle.num.specs.declared.Edges.{Edges}
 use Rattle.num.specs.Limits.{limit, lastEpoch}
 use Rattle.num.specs.Checks.{Check, lowest, _if_}
 use Rattle.layout.specs.declared.Chain.{Chain}
@@ -75,9 +76,9 @@ startAnswer held [] edge = 0
 startAnswer held (us ∷ sets) edge = lowest (9 if leb limit (newStart held edge) ∷ [])
 
 -- where the sequencer is started: the largest edge, or the new range's start
-unfoldable pub firstFree : Lay → List (List ℕ) → ℕ → ℕ
-firstFree held [] edge = edge
-firstFree held (us ∷ sets) edge = newStart held edge
+unfoldable pub firstFree : Lay → List (List ℕ) → Edges → ℕ
+firstFree held [] edges = edges .edge .0
+firstFree held (us ∷ sets) edges = newStart held (edges .edge .0)
 
 -- ---- for every value: the plan
 
@@ -142,13 +143,13 @@ unfoldable pub settled : Layout → ℕ → Layout
 settled plan edge = cond (isOpen (layOf plan .spans)) (startSet (length (layOf plan .spans) - 1) (openStart (layOf plan .spans) edge) plan) plan
 
 -- where the sequencer is started: the largest edge, or the new range's start
-unfoldable pub settledFirst : Layout → ℕ → ℕ
-settledFirst plan edge = cond (isOpen (layOf plan .spans)) (openStart (layOf plan .spans) edge) edge
+unfoldable pub settledFirst : Layout → Edges → ℕ
+settledFirst plan edges = cond (isOpen (layOf plan .spans)) (openStart (layOf plan .spans) (edges .edge .0)) (edges .edge .0)
 
 -- the plan with its start set, and where the sequencer is started; none and 0 where it is refused
-unfoldable pub startedAt : Layout → ℕ → Started
-startedAt plan edge = record {
-  answer = settleAnswer plan edge;
-  layout = cond (eqb (settleAnswer plan edge) 0) (settled plan edge) blank;
-  first = record { 0 = cond (eqb (settleAnswer plan edge) 0) (settledFirst plan edge) 0 };
+unfoldable pub startedAt : Layout → Edges → Started
+startedAt plan edges = record {
+  answer = settleAnswer plan (edges .edge .0);
+  layout = cond (eqb (settleAnswer plan (edges .edge .0)) 0) (settled plan (edges .edge .0)) blank;
+  first = record { 0 = cond (eqb (settleAnswer plan (edges .edge .0)) 0) (settledFirst plan edges) 0 };
 }

@@ -4,6 +4,7 @@ use mathlib.Core.Bool.{Bool, true, _&&_}
 use mathlib.Core.List.{List, [], _∷_, map}
 use lib.Dec.{leb, eqb}
 use lib.ListN.{length, take, drop, replicate}
+unfoldable pub use Rattle.num.specs.Zeros.{zeros}
 use Rattle.layout.specs.declared.Chain.{Chain}
 use Rattle.layout.specs.declared.Range.{Range}
 use Rattle.layout.specs.declared.Layout.{Layout}
@@ -68,13 +69,9 @@ blank = record {
 
 -- ---- the value of a good layout, and of no other
 
-unfoldable pub zeros : List ℕ → Bool
-zeros [] = true
-zeros (x ∷ xs) = eqb x 0 && zeros xs
-
 -- the count within the units, and 0 past it
 unfoldable pub tidyChain : Chain → Bool
-tidyChain c = eqb (length (c .units)) setLimit && leb (c .count) setLimit && zeros (drop (c .count) (c .units))
+tidyChain c = eqb (length (c .units)) setLimit && leb (c .count) setLimit && zeros setLimit (drop (c .count) (c .units))
 
 -- each chain is tidy, and those past the first n hold no unit
 unfoldable pub tidyChains : ℕ → List Chain → Bool

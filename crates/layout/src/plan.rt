@@ -2,7 +2,7 @@
 ghost use mathlib.Core.Path.{_≡_};
 ghost use mathlib.Core.Bool.{cond, _||_};
 ghost use mathlib.Core.List.{map};
-ghost use Prim.Native.Nat.{_+_, _<_, _≤_, max};
+ghost use Prim.Native.Nat.{_+_, _<_, _≤_};
 ghost use lib.Dec.{ltb};
 ghost use lib.ListN.{length, take, set};
 ghost use lib.Seq.{sets as stored};
@@ -21,11 +21,13 @@ use crate::place::in_sets;
 use crate::place::range_total;
 use crate::place::set_total;
 use crate::successor::start_at;
+use num::Edges;
 use num::Epoch;
 use num::Position;
 use num::answer::Answer;
 use num::answer::pick;
 use num::bytes::size;
+use num::largest::larger;
 
 // The new layout, the start of its new range still open.
 pub struct Planned {
@@ -246,36 +248,32 @@ fn set_start(mut l: Layout, k: usize, start: u64) -> Layout
     l
 }
 
-fn larger(a: u64, b: u64) -> u64
-    ensures { λ r. ⌜ r ≡ max a b ⌝ }
-{
-    if a <= b { b } else { a }
-}
-
-// The plan with its new range's start set, `edge` being the largest edge; and where the sequencer is to be started.
-pub fn with_start(plan: Layout, edge: Position) -> Started
-    ensures { λ r. ⌜ r ≡ startedAt plan (edge .0) ⌝ }
+// The plan with its new range's start set, above the largest edge; and where the sequencer is to be started.
+pub fn with_start(plan: Layout, edges: Edges) -> Started
+    ensures { λ r. ⌜ r ≡ startedAt plan edges ⌝ }
 {
     if !has_open(plan) {
+        let first = edges.edge;
         return Started {
             answer: Answer::FINE,
             layout: plan,
-            first: edge,
+            first,
         };
     }
     let n = range_total(plan);
     let last = start_at(plan, n - 2);
-    if (Position::LIMIT <= edge.0) | (Position::LIMIT - 1 <= last) {
+    if (Position::LIMIT <= edges.edge.0) | (Position::LIMIT - 1 <= last) {
         return Started {
             answer: Answer::SPENT,
             layout: Layout::blank(),
             first: Position(0),
         };
     }
-    let start = larger(edge.0, last + 1);
+    let above = last + 1;
+    let start = larger(edges.edge, Position(above));
     Started {
         answer: Answer::FINE,
-        layout: set_start(plan, n - 1, start),
-        first: Position(start),
+        layout: set_start(plan, n - 1, start.0),
+        first: start,
     }
 }

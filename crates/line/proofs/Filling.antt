@@ -44,27 +44,27 @@ module _ {n rest width : ℕ} (s : Counting n rest width) where
 
 -- ---- storing: w digits, zeros in front of a number that has fewer
 
-unfoldable pub shown : ℕ → ℕ → List ℕ
-shown zero n = []
-shown (suc w) n = shown w (n / 10) ++ (digit (n % 10) ∷ [])
+unfoldable pub digitsOf : ℕ → ℕ → List ℕ
+digitsOf zero n = []
+digitsOf (suc w) n = digitsOf w (n / 10) ++ (digit (n % 10) ∷ [])
 
-shown-length : (w n : ℕ) → length (shown w n) ≡ w
-unfolding shown
+shown-length : (w n : ℕ) → length (digitsOf w n) ≡ w
+unfolding digitsOf
 shown-length zero n = refl
-shown-length (suc w) n = omega (arith, length-append (shown w (n / 10)) (digit (n % 10) ∷ []), shown-length w (n / 10))
+shown-length (suc w) n = omega (arith, length-append (digitsOf w (n / 10)) (digit (n % 10) ∷ []), shown-length w (n / 10))
 
-shown-more : (w n : ℕ) → 0 < w → shown w n ≡ shown (w - 1) (n / 10) ++ (digit (n % 10) ∷ [])
-unfolding shown
+shown-more : (w n : ℕ) → 0 < w → digitsOf w n ≡ digitsOf (w - 1) (n / 10) ++ (digit (n % 10) ∷ [])
+unfolding digitsOf
 shown-more zero n h = absurd (not-suc-le-zero h)
 shown-more (suc w) n h = let e : suc w - 1 ≡ w = omega arith in rw e
 
 -- a number's own digits, as many as it has
-digits-shown : (k n : ℕ) → n < 10 ^ k → digits k n ≡ shown (length (digits k n)) n
-unfolding digits shown
+digits-shown : (k n : ℕ) → n < 10 ^ k → digits k n ≡ digitsOf (length (digits k n)) n
+unfolding digits digitsOf
 digits-shown zero n h = refl
 digits-shown (suc k) n h = go (sized n) (digits-shown k (n / 10) (shorter k n h))
   where
-    go : Sized n → digits k (n / 10) ≡ shown (length (digits k (n / 10))) (n / 10) → digits (suc k) n ≡ shown (length (digits (suc k) n)) n
+    go : Sized n → digits k (n / 10) ≡ digitsOf (length (digits k (n / 10))) (n / 10) → digits (suc k) n ≡ digitsOf (length (digits (suc k) n)) n
     go (one s) ih =
         let same : n % 10 ≡ n = omega arith in
         rw (digits-length-one k n s, digits-one k n s, same)
@@ -82,22 +82,22 @@ sets-set xs i j d (v ∷ vs) h =
 -- `whole` is what is to stand in the end; the first `left` digits are still to be stored
 pub record Filling (whole : List ℕ) (size width at left rest : ℕ) (line : List ℕ) : Type 0 where
   pub bound : left ≤ width
-  pub stored : sets line at (shown left rest) ≡ whole
+  pub stored : sets line at (digitsOf left rest) ≡ whole
   pub as-long : length line ≡ size
 
 pub filling-none : (line : List ℕ) (at n width : ℕ) → n < 10 ^ 20 → width ≡ length (decimal n) → Filling (sets line at (decimal n)) (length line) width at width n line
 unfolding decimal
 filling-none line at n width h e =
-    let all : shown width n ≡ decimal n = rw e (sym (digits-shown 20 n h)) in
+    let all : digitsOf width n ≡ decimal n = rw e (sym (digits-shown 20 n h)) in
     record { bound = omega arith; stored = rw all; as-long = refl }
 
 module _ {whole : List ℕ} {size width at left rest : ℕ} {line : List ℕ} (s : Filling whole size width at left rest line) where
   pub filling-more : 0 < left → Filling whole size width at (left - 1) (rest / 10) (set line (at + (left - 1)) (48 + rest % 10))
-  unfolding shown
+  unfolding digitsOf
   filling-more h =
-      let front = shown (left - 1) (rest / 10) in
+      let front = digitsOf (left - 1) (rest / 10) in
       let len : length front ≡ left - 1 = shown-length (left - 1) (rest / 10) in
-      let split : shown left rest ≡ front ++ (digit (rest % 10) ∷ []) = shown-more left rest h in
+      let split : digitsOf left rest ≡ front ++ (digit (rest % 10) ∷ []) = shown-more left rest h in
       let late : sets (set line (at + (left - 1)) (digit (rest % 10))) at front ≡ set (sets line at front) (at + (left - 1)) (digit (rest % 10))
       = sets-set line at (at + (left - 1)) (digit (rest % 10)) front (omega arith) in
       let both : sets line at (front ++ (digit (rest % 10) ∷ [])) ≡ set (sets line at front) (at + (left - 1)) (digit (rest % 10))
@@ -109,5 +109,5 @@ module _ {whole : List ℕ} {size width at left rest : ℕ} {line : List ℕ} (s
       }
 
   pub filling-all : left ≤ 0 → line ≡ whole
-  unfolding shown
+  unfolding digitsOf
   filling-all h = let z : left ≡ 0 = omega arith in rw z at (s .stored)

@@ -8,7 +8,7 @@ use borrow.Author.Tests.{lt-ltb, le-ltb, ltb-true, ltb-false}
 use lib.Dec.{ltb}
 use lib.ListN.{length, take, length-take}
 use Rattle.num.proofs.Numbers.{Bytes}
-use Rattle.layout.proofs.Fronts.{take-clip}
+use Rattle.layout.proofs.Take.{take-clip}
 use Rattle.line.specs.Text.{dash, digit, hexDigit, hexByte, hexBytes, hexText}
 
 pub hex-low : (d : ℕ) → d < 10 → hexDigit d ≡ digit d

@@ -6,7 +6,7 @@ use native.Mathlib.Numerals.{add-one}
 use native.Mathlib.Omega.{arith}
 use lib.ListN.{length, getD, take, drop, set, length-set, length-take}
 use lib.Seq.{sets}
-use Rattle.layout.proofs.Same.{front-step, front-end}
+use Rattle.layout.proofs.Take.{front-step, front-end}
 use Rattle.line.specs.Text.{hexDigit, hexByte, hexBytes}
 use Rattle.line.specs.Put.{IsPut}
 use Rattle.line.proofs.Hex.{hex-length}

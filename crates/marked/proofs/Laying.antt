@@ -11,7 +11,7 @@ use Rattle.layout.specs.declared.plan.Planned.{Planned}
 use Rattle.layout.specs.Codec.{readLayout}
 use Rattle.layout.specs.Places.{placedAt}
 use Rattle.layout.specs.Plan.{plannedFor}
-use Rattle.layout.proofs.Fronts.{pastSets}
+use Rattle.layout.proofs.Take.{pastSets}
 use Rattle.marked.specs.declared.ask.Told.{Told}
 use Rattle.marked.specs.Lays.{told, tenth, noWish, placeTold, dropTold}
 

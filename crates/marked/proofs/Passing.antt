@@ -28,7 +28,7 @@ use Rattle.marked.specs.declared.ask.Told.{Told}
 use Rattle.marked.specs.Lays.{placeTold, dropTold}
 use Rattle.marked.specs.Asks.{toldOf, leftBy}
 use Rattle.marked.specs.Table.{rows}
-use Rattle.marked.specs.Marked.{blank, after, sameTold, Marked}
+use Rattle.marked.specs.Marked.{blank, after, sameTold, RowsHold}
 use Rattle.marked.proofs.Telling.{told-eq}
 use Rattle.marked.proofs.Units.{sure, filled, tells, next, nextCode, tells-right, leaves-next}
 
@@ -84,7 +84,7 @@ made : (m : List ℕ) → length m ≡ 6168 → freshAnswer m 1 0 ≡ 0
 made m e = fresh-fine m 1 0 (e ∙ sym (sized 0 .whole)) (omega arith) (omega arith) (omega arith)
 
 -- THE MARKED EXAMPLES HOLD
-pub marked : Marked
+pub marked : RowsHold
 unfolding rows after toldOf leftBy
 marked m e zero l = rw (made m e)
 marked m e (suc k) l = rw (fresh-made m 1 0 (made m e)) (passed 0 (freshUnit 1) (tail rows) all k (le-of-suc-le-suc l))

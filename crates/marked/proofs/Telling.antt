@@ -2,10 +2,11 @@
 use Prim.Native.Nat.{ℕ, _+_}
 use mathlib.Core.Bool.{cond}
 use mathlib.Core.List.{List}
-use mathlib.Core.Path.{_≡_, refl, _∙_}
+use mathlib.Core.Path.{_≡_, refl, ap, _∙_}
 use native.Mathlib.Numerals.{add-one}
 use lib.Dec.{eqb}
 use Rattle.num.specs.Bytes.{numberAt}
+use Rattle.num.specs.declared.Edges.{Edges}
 use Rattle.num.specs.declared.Epoch.{Epoch}
 use Rattle.num.specs.declared.Position.{Position}
 use Rattle.unit.specs.State.{content}
@@ -73,7 +74,7 @@ pub read-told : {m : List ℕ} {e : Epoch} {p : Position} {answer kind start siz
 unfolding toldOf leftBy
 read-told x a k = record { told-is = told-eq (a ∙ x .answered .answer-is) (k ∙ x .kind-is) (x .length-is); memory-is = refl }
 
-pub seal-told : {m after : List ℕ} {n : Epoch} {answer edge a : ℕ} → IsSealed m n answer edge after → a ≡ answer
-    → IsTold m (Seal n) (told a edge 0) after
+pub seal-told : {m after : List ℕ} {n : Epoch} {answer a : ℕ} {edges : Edges} → IsSealed m n answer edges after → a ≡ answer
+    → IsTold m (Seal n) (told a (edges .edge .0) 0) after
 unfolding toldOf leftBy
-seal-told x a = record { told-is = told-eq (a ∙ x .answered .answer-is) (x .edge-is) refl; memory-is = x .answered .memory-is }
+seal-told x a = record { told-is = told-eq (a ∙ x .answered .answer-is) (ap (λ (s : Edges). s .edge .0) (x .edges-is)) refl; memory-is = x .answered .memory-is }

@@ -27,5 +27,5 @@ after (suc k) [] m = m
 after (suc k) (r ∷ rs) m = after k rs (leftBy m (r .asked))
 
 -- whatever the bytes were, the rules answer every row of the table as it expects
-abbrev pub Marked : Type 0
-Marked = (m : List ℕ) → length m ≡ 6168 → (k : ℕ) → k < length rows → toldOf (after k rows m) (getD rows k blank .asked) ≡ getD rows k blank .told
+abbrev pub RowsHold : Type 0
+RowsHold = (m : List ℕ) → length m ≡ 6168 → (k : ℕ) → k < length rows → toldOf (after k rows m) (getD rows k blank .asked) ≡ getD rows k blank .told

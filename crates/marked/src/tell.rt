@@ -62,7 +62,7 @@ fn tell_seal(mem: &mut [u8], n: Epoch) -> Told
     let sealed = seal(mem, n);
     Told {
         answer: wide(sealed.answer),
-        first: sealed.edge,
+        first: sealed.edges.edge.0,
         second: 0,
     }
 }

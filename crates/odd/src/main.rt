@@ -50,16 +50,21 @@ fn after(t: KeptStep, at: usize) -> Going {
     Going { kept, at }
 }
 
-// Takes the step `n` and prints its line. The remainders change nothing: they spare an invariant.
+// Where the next step stands. The remainders change nothing: they spare an invariant.
+fn past(at: usize, size: usize) -> usize {
+    at % Judged::SIZE + size % Judged::SIZE
+}
+
+// Takes the step `n` and prints its line.
 fn goes(going: Going, file: &[u8], n: u32, units: &mut [u8], words: &mut [u8]) -> Going {
     let kept = going.kept;
-    let at = going.at % Judged::SIZE;
+    let at = going.at;
     let got = step_at(file, at);
     let s = got.step;
     let job = got.job;
     let t = step_kept(kept, units, s, job);
     say_line(words, n, t);
-    after(t, at + got.size % Judged::SIZE)
+    after(t, past(at, got.size))
 }
 
 // So many steps.
@@ -71,6 +76,24 @@ fn steps(mut going: Going, file: &[u8], count: u32, units: &mut [u8], words: &mu
     }
 }
 
+// The yard made odd, before the first step.
+fn begun(odd: u8, judged: Judged, units: &mut [u8]) -> Going {
+    let layout = judged.layout;
+    let made = fresh_kept(layout, units);
+    let kept = made_odd(made, units, odd);
+    Going {
+        kept,
+        at: judged.first,
+    }
+}
+
+fn plays(odd: u8, judged: Judged, file: &[u8]) {
+    let mut units = [0u8; Yard::SIZE];
+    let mut words = [0u8; Line::ROOM];
+    let going = begun(odd, judged, &mut units);
+    steps(going, file, judged.count, &mut units, &mut words);
+}
+
 // The play, or 22 where it is none or the oddity has no such name.
 fn run(odd: u8, file: &[u8]) {
     let judged = judge(file);
@@ -78,16 +101,7 @@ fn run(odd: u8, file: &[u8]) {
         text(b"22\n");
         return;
     }
-    let layout = judged.layout;
-    let mut units = [0u8; Yard::SIZE];
-    let made = fresh_kept(layout, &mut units);
-    let kept = made_odd(made, &mut units, odd);
-    let going = Going {
-        kept,
-        at: judged.first,
-    };
-    let mut words = [0u8; Line::ROOM];
-    steps(going, file, judged.count, &mut units, &mut words);
+    plays(odd, judged, file);
 }
 
 fn main() {

@@ -17,11 +17,29 @@ use sequencer::Sequencer;
 use sequencer::start_step;
 use unit::memory::Unit;
 
+// Near the last of each kind.
+const LIFE: u16 = Client::LAST_LIFE - 1;
+
+const USED: u32 = Request::LAST - 60;
+
+const SEALED: u32 = Epoch::LAST - 5;
+
+const HELD: u32 = Epoch::LAST - 4;
+
+// Where the memory of unit 3 has its number, its shape and a spare byte.
+const NUMBER: usize = 2 * Unit::SIZE;
+
+const SHAPE: usize = 2 * Unit::SIZE + 1;
+
+const SPARE: usize = 2 * Unit::SIZE + 20;
+
+const TOO_MANY: u8 = Yard::MOST + 1;
+
 // 1: near their last life and their last request number.
 fn old_clients() -> [Client; Yard::CLIENTS] {
-    let used = Request(4_294_967_235);
+    let used = Request(USED);
     let mut client = Client::fresh();
-    client.life = 65_534;
+    client.life = LIFE;
     client.used = used;
     [client; Yard::CLIENTS]
 }
@@ -35,7 +53,7 @@ fn seal_all(units: &mut [u8]) {
     while i < Yard::UNITS {
         let start = i * Unit::SIZE;
         let end = start + Unit::SIZE;
-        unit::seal::seal(&mut units[start..end], Epoch(4_294_967_290));
+        unit::seal::seal(&mut units[start..end], Epoch(SEALED));
         i += 1;
     }
 }
@@ -43,7 +61,7 @@ fn seal_all(units: &mut [u8]) {
 // 2: the sequencer is started there.
 fn old_sequencer(s: Sequencer, odd: u8) -> Sequencer {
     if odd == 2 {
-        let started = start_step(s, Epoch(4_294_967_291), Position(0));
+        let started = start_step(s, Epoch(HELD), Position(0));
         return started.after;
     }
     s
@@ -52,7 +70,7 @@ fn old_sequencer(s: Sequencer, odd: u8) -> Sequencer {
 // 2: the held layout is of that epoch. 5: it has no sets.
 fn odd_layout(mut held: Layout, odd: u8) -> Layout {
     if odd == 2 {
-        let epoch = Epoch(4_294_967_291);
+        let epoch = Epoch(HELD);
         held.epoch = epoch;
     }
     if odd == 5 {
@@ -72,9 +90,9 @@ fn spoil(units: &mut [u8], odd: u8) {
     }
     match odd {
         2 => seal_all(units),
-        3 => units[12_356] = 1,
-        4 => units[12_336] = 4,
-        8 => units[12_337] = other_shape(units[12_337]),
+        3 => units[SPARE] = 1,
+        4 => units[NUMBER] = 4,
+        8 => units[SHAPE] = other_shape(units[SHAPE]),
         _ => {}
     }
 }
@@ -82,7 +100,7 @@ fn spoil(units: &mut [u8], odd: u8) {
 // 6: a count above the table. 7: one letter, see `offer`.
 fn odd_count(count: u8, odd: u8) -> u8 {
     match odd {
-        6 => 33,
+        6 => TOO_MANY,
         7 => 1,
         _ => count,
     }
@@ -132,17 +150,17 @@ fn odd_yard(mut yard: Yard, odd: u8) -> Yard {
 
 // The fresh yard made odd, as the number says.
 pub(crate) fn made_odd(made: KeptMade, units: &mut [u8], odd: u8) -> Kept {
-    let mut kept = made.kept;
-    let yard = kept.yard;
-    let held = yard.held;
-    let sequencer = kept.sequencer;
-    let table = kept.table;
-    let letters = odd_table(table, held, odd);
-    let next = old_sequencer(sequencer, odd);
-    let odd_one = odd_yard(yard, odd);
     spoil(units, odd);
-    kept.yard = odd_one;
-    kept.sequencer = next;
-    kept.table = letters;
-    kept
+    let yard = made.kept.yard;
+    let held = yard.held;
+    let sequencer = made.kept.sequencer;
+    let letters = made.kept.table;
+    let table = odd_table(letters, held, odd);
+    let next = old_sequencer(sequencer, odd);
+    let other = odd_yard(yard, odd);
+    Kept {
+        yard: other,
+        sequencer: next,
+        table,
+    }
 }

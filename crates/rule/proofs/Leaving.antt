@@ -9,7 +9,7 @@ use lib.ListN.{length, take, drop, getD, replicate, length-append, length-drop, 
 use borrow.Author.Tests.{eqb-true, eq-eqb, le-ltb}
 use Rattle.num.proofs.Tests.{and-both}
 use Rattle.layout.specs.Value.{goodValue}
-use Rattle.layout.proofs.Values.{value-known}
+use Rattle.layout.proofs.ValueOf.{value-known}
 use Rattle.unit.specs.declared.shape.Shape.{Shape}
 use Rattle.unit.specs.Shape.{shapeFor}
 use Rattle.unit.specs.State.{State}
@@ -115,10 +115,10 @@ module _ (shape : ℕ) where
 
 -- ---- clients
 
-abbrev pub Told : ℕ → Client → Type 0
-Told k c = (not (fetched (c .stage)) || goodValue (c .layout)) ≡ true
+abbrev pub HoldsGood : ℕ → Client → Type 0
+HoldsGood k c = (not (fetched (c .stage)) || goodValue (c .layout)) ≡ true
 
-clients-good : {k : ℕ} (cs : List Client) → AllFrom Told k cs → goodClients cs ≡ true
+clients-good : {k : ℕ} (cs : List Client) → AllFrom HoldsGood k cs → goodClients cs ≡ true
 unfolding goodClients
 clients-good [] from-none = refl
 clients-good (c ∷ cs) (from-more ok rest) = rw (ok, clients-good cs rest)
@@ -130,7 +130,7 @@ pub record Lendable (w : World) : Type 0 where
   pub units-fit : AllFrom (Fit (shapeUnder (w .held))) 1 (w .units)
   pub eight : length (w .units) ≡ 8
   pub held-good : goodValue (w .held) ≡ true
-  pub clients-fit : AllFrom Told 1 (w .clients)
+  pub clients-fit : AllFrom HoldsGood 1 (w .clients)
   pub few : length (w .letters) ≤ 32
 
 -- the table and its count, as they were lent

@@ -11,6 +11,7 @@ use Prim.Native.Nat.{ℕ}
 use lib.ListN.{replicate}
 use Rattle.num.specs.declared.Epoch.{Epoch}
 use Rattle.num.specs.declared.Position.{Position}
+use Rattle.num.specs.Edges.{noEdges, largest, within}
 use Rattle.layout.specs.declared.Layout.{Layout}
 use Rattle.layout.specs.Lay.{rising, goodSet, goodSets, goodSpans, firstAtZero, used, good, _in?_, inSets, usedFrom, unitsOf}
 use Rattle.layout.specs.Value.{padded, noChain, layOf, valueOf, zeros, tidyChain, tidyChains, blankRanges, tidy, goodValue}
@@ -27,7 +28,7 @@ use Rattle.client.specs.declared.Ask.{Ask}
 use Rattle.client.specs.declared.Ask.the-variants.{Fetch, Token, Unit, Offer, Start}
 use Rattle.client.specs.declared.UnitAsk.the-variants.{Write, Read, Trim, Seal}
 use Rattle.client.specs.declared.Reply.{Reply}
-use Rattle.client.specs.declared.Reply.the-variants.{Held, Given, Fine, Shown, Edge, Refused}
+use Rattle.client.specs.declared.Reply.the-variants.{Held, Given, Fine, Shown, Edged, Refused}
 use Rattle.client.specs.declared.Work.the-variants as work
 use Rattle.client.specs.declared.Change.{Change}
 use Rattle.client.specs.declared.state.Job.{Job}
@@ -42,7 +43,7 @@ use Rattle.client.specs.Trim.{trims, trimsOn, onTrimmed}
 use Rattle.client.specs.Job.{dataPage}
 use Rattle.client.specs.Begin.{beginAnswer, withJob, beginTurn, restartAnswer, restarted}
 use Rattle.client.specs.Take.{goesOn, holds, onFetched, worksOn, answered, awaited, takes}
-use Rattle.client.specs.Reorganise.{seals, offers, allSealed, sealsOn, reorganises, larger, edgeTaken, onSealed, starts, onOffered, notStarted, onStarted}
+use Rattle.client.specs.Reorganise.{seals, offers, allSealed, sealsOn, reorganises, edgesTaken, onSealed, starts, onOffered, notStarted, onStarted}
 use Rattle.rule.specs.declared.Body.{Body}
 use Rattle.rule.specs.declared.Body.the-variants.{Asks, Answers}
 use Rattle.rule.specs.declared.Letter.{Letter}
@@ -50,7 +51,7 @@ use Rattle.rule.specs.declared.Step.{Step}
 use Rattle.rule.specs.declared.Step.the-variants.{Begin, Deliver, Restart, Forget}
 use Rattle.rule.specs.World.{World}
 use Rattle.rule.specs.Steps.{Done, without as letters-without, turned, beginNumber, begins, served, taken, delivered, delivers, restartNumber, restarts, forgets, step}
-use Rattle.rule.specs.Serve.{kindOf, bytesOf, pageOf, shown, edged, asking, fetching, offeringTo, unitSays, unitAfter, serve}
+use Rattle.rule.specs.Serve.{kindOf, bytesOf, pageOf, pageShown, edged, asking, fetching, offeringTo, unitSays, unitAfter, serve}
 use Rattle.rule.specs.Fresh.{freshUnits, freshWorld}
 
 -- ---- what a run comes to
@@ -222,7 +223,7 @@ letters =
     ∷ []
 
 pub letters-happen : Happens letters
-unfolding padded layOf valueOf zeros tidyChain tidyChains blankRanges tidy goodValue rising goodSet goodSets goodSpans firstAtZero used good placed setNumber setAt headOf tailOf after placeAnswer unitsAt fetchedFrom lookup insert keepFrom before retire written retired trimmedAt number position told sequencer-after idle sends otherwise dataLimit shapeFor writesAt writesOn notAtHead notLater notWritten fillsOn notFilled trimsOn beginTurn restarted holds worksOn isShowable pageTaken noRefusal pageCarried awaited takes letters-without turned beginNumber begins served taken delivered delivers restartNumber restarts forgets step kindOf bytesOf pageOf shown asking fetching unitSays unitAfter serve freshUnits freshWorld mails story isPage hasBytes isGone unit-says unit-after report
+unfolding padded layOf valueOf zeros tidyChain tidyChains blankRanges tidy goodValue rising goodSet goodSets goodSpans firstAtZero used good placed setNumber setAt headOf tailOf after placeAnswer unitsAt fetchedFrom lookup insert keepFrom before retire written retired trimmedAt number position told sequencer-after idle sends otherwise dataLimit shapeFor writesAt writesOn notAtHead notLater notWritten fillsOn notFilled trimsOn beginTurn restarted holds worksOn isShowable pageTaken noRefusal pageCarried awaited takes letters-without turned beginNumber begins served taken delivered delivers restartNumber restarts forgets step kindOf bytesOf pageOf pageShown asking fetching unitSays unitAfter serve freshUnits freshWorld mails story isPage hasBytes isGone unit-says unit-after report
 letters-happen = refl
 
 -- ---- ranges
@@ -245,15 +246,15 @@ ranges =
     ∷ (deliver 1 then asks Fetch ∷ seal 1 ∷ [])
     ∷ (deliver 0 then seal 1 ∷ told-so Held ∷ [])
     ∷ (deliver 1 then seal 1 ∷ seal 2 ∷ [])
-    ∷ (deliver 0 then seal 2 ∷ told-so (Edge (p 0)) ∷ [])
+    ∷ (deliver 0 then seal 2 ∷ told-so (Edged noEdges) ∷ [])
     ∷ (deliver 1 then seal 2 ∷ seal 2 ∷ [])
-    ∷ (deliver 1 then seal 2 ∷ told-so (Edge (p 0)) ∷ [])
+    ∷ (deliver 1 then seal 2 ∷ told-so (Edged noEdges) ∷ [])
     ∷ (deliver 1 then seal 2 ∷ seal 3 ∷ [])
-    ∷ (deliver 1 then seal 2 ∷ told-so (Edge (p 0)) ∷ [])
+    ∷ (deliver 1 then seal 2 ∷ told-so (Edged noEdges) ∷ [])
     ∷ (deliver 1 then seal 2 ∷ seal 4 ∷ [])
-    ∷ (deliver 1 then seal 2 ∷ told-so (Edge (p 0)) ∷ [])
+    ∷ (deliver 1 then seal 2 ∷ told-so (Edged noEdges) ∷ [])
     ∷ (deliver 1 then seal 2 ∷ asks Offer ∷ [])
-    ∷ (deliver 0 then asks Offer ∷ told-so (Edge (p 0)) ∷ [])
+    ∷ (deliver 0 then asks Offer ∷ told-so (Edged noEdges) ∷ [])
     ∷ (deliver 1 then asks Offer ∷ asks Offer ∷ [])
     -- client 1's offer comes first, and client 2's is overtaken
     ∷ (deliver 0 then asks Offer ∷ told-so Fine ∷ [])
@@ -275,5 +276,5 @@ ranges =
     ∷ []
 
 pub ranges-happen : Happens ranges
-unfolding rising goodSet goodSets goodSpans firstAtZero used good _in?_ inSets usedFrom unitsOf padded layOf valueOf zeros tidyChain tidyChains blankRanges tidy goodValue placed setNumber setAt headOf tailOf after above placeAnswer unitsAt without badDrops emptied planAnswer planned lastStart newStart startAnswer firstFree goodChains reorganiseAnswer plannedFor isOpen openStart startSet settleAnswer settled settledFirst startedAt offerAnswer offeredTo fetchedFrom sublist keepsSets keepsSpans lawful lookup insert lastEnd edge written sealedAt number position told sequencer-after idle sends otherwise dataLimit shapeFor writesAt writesOn beginTurn holds worksOn isShowable pageTaken noRefusal awaited takes allSealed sealsOn reorganises larger edgeTaken notStarted letters-without turned beginNumber begins served taken delivered delivers step kindOf bytesOf pageOf edged asking fetching offeringTo unitSays unitAfter serve freshUnits freshWorld mails story isPage hasBytes isGone unit-says unit-after report
+unfolding rising goodSet goodSets goodSpans firstAtZero used good _in?_ inSets usedFrom unitsOf padded layOf valueOf zeros tidyChain tidyChains blankRanges tidy goodValue placed setNumber setAt headOf tailOf after above placeAnswer unitsAt without badDrops emptied planAnswer planned lastStart newStart startAnswer firstFree goodChains reorganiseAnswer plannedFor isOpen openStart startSet settleAnswer settled settledFirst startedAt offerAnswer offeredTo fetchedFrom sublist keepsSets keepsSpans lawful lookup insert lastEnd edge written sealedAt number position told sequencer-after idle sends otherwise dataLimit shapeFor writesAt writesOn beginTurn holds worksOn isShowable pageTaken noRefusal awaited takes allSealed sealsOn reorganises largest within edgesTaken notStarted letters-without turned beginNumber begins served taken delivered delivers step kindOf bytesOf pageOf edged asking fetching offeringTo unitSays unitAfter serve freshUnits freshWorld mails story isPage hasBytes isGone unit-says unit-after report
 ranges-happen = refl

@@ -9,7 +9,7 @@ use lib.ListN.{length, set}
 use Prim.Native.Nat.{ℕ, _-_, _≤_}
 use Rattle.num.proofs.Tests.{and-both, cond-zero}
 use Rattle.layout.specs.declared.Layout.{Layout}
-use Rattle.layout.proofs.Holding.{shape-stays}
+use Rattle.layout.proofs.OfferedTo.{shape-stays}
 use Rattle.unit.specs.Shape.{large, small, shapeFor, shapeOf}
 use Rattle.unit.specs.Memory.{good, numberOf, codeOf}
 use Rattle.unit.specs.Kinds.{dataKind}

@@ -4,6 +4,7 @@ use mathlib.Core.Bool.{Bool, false, not, cond}
 use mathlib.Core.List.{List, []}
 use lib.Dec.{eqb, leb}
 use lib.ListN.{length, take, set}
+use Rattle.num.specs.declared.Edges.{Edges}
 use Rattle.num.specs.declared.Epoch.{Epoch}
 use Rattle.num.specs.declared.Position.{Position}
 use Rattle.layout.specs.declared.Layout.{Layout}
@@ -27,7 +28,7 @@ use Rattle.client.specs.declared.UnitAsk.the-variants.{Write, Read, Trim, Prune
 use Rattle.client.specs.declared.Ask.{Ask}
 use Rattle.client.specs.declared.Ask.the-variants.{Fetch, Token, Unit, Offer, Start}
 use Rattle.client.specs.declared.Reply.{Reply}
-use Rattle.client.specs.declared.Reply.the-variants.{Held, Given, Fine, Shown, Edge, Refused}
+use Rattle.client.specs.declared.Reply.the-variants.{Held, Given, Fine, Shown, Edged, Refused}
 use Rattle.client.specs.declared.Response.{Response}
 use Rattle.client.specs.Message.{pageLimit, noPage}
 use Rattle.rule.specs.World.{World, shapeUnder, running, unitAt}
@@ -59,18 +60,18 @@ bytesOf g = cond (leb (g .len) pageLimit) (take (g .len) (g .bytes)) []
 unfoldable pub pageOf : Content → Page
 pageOf s = record { kind = s .kind; len = length (s .payload); bytes = padded pageLimit 0 (s .payload) }
 
-unfoldable pub shown : Shape → State → Epoch → Position → Response
-shown sh u e p =
+unfoldable pub pageShown : Shape → State → Epoch → Position → Response
+pageShown sh u e p =
     cond (eqb (says sh u (read e p)) 0)
     (record { reply = Shown; page = pageOf (report sh u (read e p) .page); layout = blank })
     (bare (Refused (says sh u (read e p))))
 
--- an edge where the number is 0
-abbrev pub edgeOr : ℕ → ℕ → Reply
-edgeOr n e = cond (eqb n 0) (Edge (record { 0 = e })) (Refused n)
+-- the edges where the number is 0
+abbrev pub edgesOr : ℕ → Edges → Reply
+edgesOr n e = cond (eqb n 0) (Edged e) (Refused n)
 
 unfoldable pub edged : Shape → State → Epoch → Reply
-edged sh u e = edgeOr (says sh u (seal e)) (report sh u (seal e) .edge)
+edged sh u e = edgesOr (says sh u (seal e)) (report sh u (seal e) .edges)
 
 -- what a unit is asked by a letter that bears the page g
 abbrev pub requestOf : UnitAsk → Page → Request
@@ -83,7 +84,7 @@ requestOf (Seal e) g = seal e
 -- what it answers, in its shape
 unfoldable pub unitSays : Shape → State → UnitAsk → Page → Response
 unitSays sh s (Write e p) g = bare (saying (says sh s (write e p (content (kindOf g) (bytesOf g)))))
-unitSays sh s (Read e p) g = shown sh s e p
+unitSays sh s (Read e p) g = pageShown sh s e p
 unitSays sh s (Trim e p) g = bare (saying (says sh s (trim e p)))
 unitSays sh s (Prune e p) g = bare (saying (says sh s (prune e p)))
 unitSays sh s (Seal e) g = bare (edged sh s e)

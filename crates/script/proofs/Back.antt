@@ -10,11 +10,12 @@ use lib.ListN.{length, getD, drop, length-append}
 use lib.Seq.{drop-append-seam}
 use Rattle.num.specs.Bytes.{leBytes, numberAt}
 use Rattle.num.proofs.Tests.{and-both}
+use Rattle.num.proofs.Numbers.{number-behind, number-back}
 use Rattle.layout.specs.Lay.{setsLimit}
 use Rattle.layout.specs.Value.{padded}
 use Rattle.layout.specs.Codec.{counted, setsBytes, setFront, setsSaid, setsAt}
-use Rattle.layout.proofs.Parsing.{number-behind}
-use Rattle.layout.proofs.Rounds.{padded-exact, sets-back, number-back}
+use Rattle.layout.proofs.Padded.{padded-exact}
+use Rattle.layout.proofs.SetsAt.{sets-back}
 use Rattle.client.specs.Client.{dropLimit}
 use Rattle.script.specs.Cue.{Cue}
 use Rattle.script.specs.Cue.Cue.{append, read, fill, trim, prune, reorganise, deliver, dropAt, stop, restart, giveUp, forget}

@@ -1,24 +1,17 @@
 -- The loop that copies the bytes behind a count, as many as there is room for.
 use Prim.Native.Nat.{ℕ, _+_, _<_, _≤_}
 use mathlib.Core.Bool.{cond}
-use mathlib.Core.List.{List, [], _++_, append-nil}
-use mathlib.Core.Path.{_≡_, refl, sym, ap, _∙_}
+use mathlib.Core.List.{List}
+use mathlib.Core.Path.{_≡_, sym, _∙_}
 use native.Mathlib.Omega.{arith}
-use native.Mathlib.Nat.{zero-add}
 use borrow.Author.Tests.{lt-ltb}
 use lib.Dec.{ltb}
-use lib.ListN.{length, getD, take, drop, drop-of-length-le}
-use lib.Seq.{sets, sets-eq, getD-drop, take-all}
+use lib.ListN.{length, getD, drop}
+use lib.Seq.{getD-drop, take-all}
 use Rattle.layout.specs.Value.{padded}
 use Rattle.layout.specs.Codec.{setFront}
-use Rattle.layout.proofs.Padding.{length-padded, padded-at}
-use Rattle.layout.proofs.Same.{Copying, copy-all}
-
--- a list as long as what it is stored over is all that stands there
-pub sets-whole : (xs vs : List ℕ) → length vs ≡ length xs → sets xs 0 vs ≡ vs
-sets-whole xs vs e =
-    let none : drop (0 + length vs) xs ≡ [] = drop-of-length-le xs {i = 0 + length vs} (omega arith) in
-    sets-eq vs xs 0 (omega arith) ∙ rw none (append-nil vs)
+use Rattle.layout.proofs.Padded.{length-padded, padded-at}
+use Rattle.layout.proofs.Stored.{stored-whole, Copying, copy-all}
 
 module _ (b : List ℕ) (m : ℕ) where
   pub copied-byte : (n i x v : ℕ) → i < m → n ≡ getD b 2 0 → x ≡ getD b (3 + i) 0 → v ≡ cond (ltb i n) x 0 → v ≡ getD (padded m 0 (setFront (drop 2 b))) i 0
@@ -33,4 +26,4 @@ module _ (b : List ℕ) (m : ℕ) where
   copied before i out e h s =
       let vs = padded m 0 (setFront (drop 2 b)) in
       let long : length vs ≡ m = length-padded m 0 (setFront (drop 2 b)) in
-      copy-all s h ∙ rw (take-all m vs (omega arith)) (sets-whole before vs (long ∙ sym e))
+      copy-all s h ∙ rw (take-all m vs (omega arith)) (stored-whole before vs (long ∙ sym e))

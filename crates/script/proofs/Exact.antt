@@ -1,25 +1,24 @@
 -- What is read of a step is written back as it stood.
-use Prim.Native.Nat.{ℕ, zero, suc, _+_, _<_, _≤_}
-use mathlib.Core.Bool.{Bool, true, false, _&&_, _||_, not, cond}
+use Prim.Native.Nat.{ℕ, zero, suc, _+_, _≤_}
+use mathlib.Core.Bool.{true, _&&_}
 use mathlib.Core.List.{List, [], _∷_, _++_}
-use mathlib.Core.Path.{_≡_, refl, sym, ap, _∙_}
+use mathlib.Core.Path.{_≡_, refl, _∙_}
 use native.Mathlib.Omega.{arith}
 use borrow.Author.Tests.{leb-true}
 use lib.Dec.{eqb, leb}
-use lib.ListN.{length, getD, drop, length-append, length-drop}
-use lib.Seq.{drop-drop}
+use lib.ListN.{length, getD, drop, length-drop}
 use Rattle.num.specs.Bytes.{leBytes, numberAt}
 use Rattle.num.proofs.Tests.{and-both, false-true}
-use Rattle.num.proofs.Numbers.{Bytes, le-length}
+use Rattle.num.proofs.Front.{Front, front-cons, front-append, front-number}
+use Rattle.num.proofs.Numbers.{Bytes, le-length, number-behind}
 use Rattle.layout.specs.Value.{padded}
 use Rattle.layout.specs.Codec.{counted, setsBytes, setFront, setsSaid, setsAt}
-use Rattle.layout.proofs.Padding.{length-padded}
-use Rattle.layout.proofs.Parsing.{number-behind, sets-length}
+use Rattle.layout.proofs.Padded.{length-padded}
+use Rattle.layout.proofs.SetsAt.{sets-length, front-counted, front-sets}
 use Rattle.script.specs.Cue.{Cue}
-use Rattle.script.specs.Cue.Cue.{append, read, fill, trim, prune, reorganise, deliver, dropAt, stop, restart, giveUp, forget}
-use Rattle.script.specs.Steps.{flag, cueBytes, pastDrops, cueFor, cueAt, sizeAt, isTag, goodFlags, hasRoom, stands, isCue}
+use Rattle.script.specs.Cue.Cue.{append, reorganise}
+use Rattle.script.specs.Steps.{flag, cueBytes, cueFor, cueAt, isTag, goodFlags, hasRoom, stands, isCue}
 use Rattle.script.proofs.Tags.{by-tag, tagged, reorganise-size}
-use Rattle.script.proofs.Fronts.{Front, front-cons, front-append, front-number, front-counted, front-sets}
 
 -- ---- by the fields that a step has
 

@@ -9,10 +9,9 @@ use lib.Dec.{leb}
 use lib.ListN.{length, getD, drop}
 use Rattle.num.specs.Bytes.{numberAt}
 use Rattle.num.proofs.Tests.{and-both}
-use Rattle.num.proofs.Numbers.{Bytes, bytes-drop}
+use Rattle.num.proofs.Numbers.{Bytes, bytes-drop, number-below}
 use Rattle.layout.specs.Value.{padded}
 use Rattle.layout.specs.Codec.{setFront, setsAt, setsSaid}
-use Rattle.layout.proofs.Parsing.{number-below}
 use Rattle.script.specs.Cue.Cue.{reorganise}
 use Rattle.script.specs.Steps.{cueBytes, pastDrops, cueFor, cueAt, sizeAt, isTag, goodFlags, hasRoom, stands, isCue, cuesAt, areCues, isByte, areBytes, setsAreBytes, isPosition, holdable, allHoldable}
 use Rattle.script.proofs.Tags.{by-tag, counted-length}

@@ -12,7 +12,7 @@ use Rattle.num.proofs.Tests.{and-both, and-false, or-false}
 use Rattle.layout.specs.declared.Layout.{Layout}
 use Rattle.layout.specs.Value.{goodValue, blank}
 use Rattle.layout.specs.Codec.{isLayout, readAnswer, readLayout, LayoutRead}
-use Rattle.layout.proofs.Rounds.{written-read}
+use Rattle.layout.proofs.ReadLayout.{written-read}
 use Rattle.script.specs.declared.judge.Judged.{Judged}
 use Rattle.script.specs.Steps.{areCues}
 use Rattle.script.specs.Play.{playLimit, layoutSize, layoutPart, layoutOf, countOf, firstOf, stepsOf, startsYard, isPlay, notJudged, judgedOf}

@@ -4,7 +4,6 @@ pub mod Copying
 pub mod Reaching
 pub mod Walking
 pub mod Judging
-pub mod Fronts
 pub mod Exact
 pub mod Back
 pub mod Cues

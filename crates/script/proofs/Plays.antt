@@ -1,29 +1,29 @@
 -- A play is read and written exactly: what reads is what it writes, and nothing else reads.
-use Prim.Native.Nat.{ℕ, zero, suc, _+_, _-_, _*_, _^_, _<_, _≤_}
+use Prim.Native.Nat.{ℕ, _+_, _*_, _≤_}
 use mathlib.Core.Bool.{Bool, true, false, _&&_, not, cond}
-use mathlib.Core.List.{List, [], _∷_, _++_, append-assoc}
+use mathlib.Core.List.{List, _++_, append-assoc}
 use mathlib.Core.Path.{_≡_, refl, sym, ap, _∙_}
 use native.Mathlib.Omega.{arith}
-use borrow.Author.Tests.{leb-true, le-leb, eq-eqb}
+use borrow.Author.Tests.{leb-true, le-leb}
 use lib.Dec.{eqb, leb}
-use lib.ListN.{length, take, drop, length-append, length-drop}
+use lib.ListN.{length, drop, length-append, length-drop}
 use lib.Seq.{drop-drop, drop-at, take-at, length-take-le}
 use Rattle.num.specs.Bytes.{leBytes, numberAt}
 use Rattle.num.proofs.Tests.{and-both}
-use Rattle.num.proofs.Numbers.{Bytes, bytes-drop, le-length}
+use Rattle.num.proofs.Front.{Front, front-append, front-take, front-number}
+use Rattle.num.proofs.Numbers.{Bytes, bytes-drop, le-length, number-behind, number-back}
 use Rattle.layout.specs.declared.Layout.{Layout}
 use Rattle.layout.specs.Value.{layOf, goodValue}
-use Rattle.layout.specs.Codec.{isLayout, readAnswer, readLayout, bytesOf}
-use Rattle.layout.proofs.Values.{value-of-good}
-use Rattle.layout.proofs.Parsing.{number-behind}
-use Rattle.layout.proofs.Rounds.{number-back, read-written, written-read, encode-is-layout, encode-small}
+use Rattle.layout.specs.Codec.{isLayout, bytesOf}
+use Rattle.layout.proofs.ValueOf.{value-of-good}
+use Rattle.layout.proofs.ReadLayout.{read-written, written-read}
+use Rattle.layout.proofs.Decode.{encode-is-layout, encode-small}
 use Rattle.rule.specs.World.{unitLimit, letterLimit}
 use Rattle.rule.specs.Lent.{unitSize}
 use Rattle.rule.specs.Fresh.{freshNumberOf}
 use Rattle.script.specs.Cue.{Cue}
 use Rattle.script.specs.Steps.{cuesBytes, cuesAt, areCues, allHoldable}
 use Rattle.script.specs.Play.{playLimit, startBytes, playBytes, layoutSize, layoutPart, layoutOf, countOf, firstOf, stepsOf, startsYard, isPlay}
-use Rattle.script.proofs.Fronts.{Front, front-append, front-take, front-number}
 use Rattle.script.proofs.Cues.{cues-written, cues-stand, cues-back, cues-length, cues-long}
 
 -- ---- what a play says of its parts

@@ -11,14 +11,14 @@ use lib.ListN.{length, getD, take, drop, set, length-append, length-take, drop-o
 use lib.Seq.{sets, length-sets, drop-cons, getD-take, length-take-le}
 use Rattle.num.proofs.Tests.{and-false}
 use Rattle.num.proofs.Storing.{sets-append}
+use Rattle.num.proofs.Bools.{same-test}
 use Rattle.layout.specs.declared.Chain.{Chain}
 use Rattle.layout.specs.declared.Wish.{Wish}
 use Rattle.layout.specs.Lay.{setLimit}
 use Rattle.layout.specs.Value.{unitsIn}
 use Rattle.layout.specs.Plan.{newOf}
 use Rattle.layout.specs.Codec.{counted, setsBytes}
-use Rattle.layout.proofs.Bools.{same-test}
-use Rattle.layout.proofs.Fronts.{take-clip, front-more, front-length, front-over}
+use Rattle.layout.proofs.Take.{take-clip, front-more, front-length, front-over}
 use Rattle.script.specs.Put.{smallChains, IsPut}
 
 -- ---- whether there is room

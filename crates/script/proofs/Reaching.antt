@@ -10,9 +10,9 @@ use lib.ListN.{length, getD, drop}
 use Rattle.layout.specs.Lay.{setLimit}
 use Rattle.layout.specs.Value.{chainOf}
 use Rattle.layout.specs.Codec.{setsBytes, setFront, setsAt, setsSaid}
-use Rattle.layout.proofs.Padding.{length-padded}
-use Rattle.layout.proofs.Parsing.{byte-behind}
-use Rattle.layout.proofs.Scanning.{Scanned, scan-none, scan-more, scan-all, sets-left, sets-over}
+use Rattle.layout.proofs.Padded.{length-padded}
+use Rattle.layout.proofs.SetsAt.{byte-behind, sets-left, sets-over}
+use Rattle.layout.proofs.AreSets.{Scanned, scan-none, scan-more, scan-all}
 use Rattle.script.specs.Steps.{smallSets}
 
 -- how many units the set at `past` has

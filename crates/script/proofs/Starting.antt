@@ -15,9 +15,9 @@ use Rattle.num.proofs.Storing.{stored-both}
 use Rattle.layout.specs.declared.Layout.{Layout}
 use Rattle.layout.specs.Value.{padded, layOf, goodValue}
 use Rattle.layout.specs.Codec.{bytesOf, writeRefused, LayoutWritten}
-use Rattle.layout.proofs.Padding.{padded-front, sets-padded}
-use Rattle.layout.proofs.Values.{value-of-good}
-use Rattle.layout.proofs.Rounds.{encode-small}
+use Rattle.layout.proofs.Padded.{padded-front, sets-padded}
+use Rattle.layout.proofs.ValueOf.{value-of-good}
+use Rattle.layout.proofs.Decode.{encode-small}
 use Rattle.script.specs.Play.{startBytes, startsYard}
 
 -- no good layout is longer than the buffer that it is written to first

@@ -15,8 +15,8 @@ use Rattle.layout.specs.declared.Wish.{Wish}
 use Rattle.layout.specs.Lay.{setLimit, setsLimit}
 use Rattle.layout.specs.Value.{padded}
 use Rattle.layout.specs.Codec.{counted, setsBytes, setFront, setsSaid, wishSaid}
-use Rattle.layout.proofs.Padding.{length-padded}
-use Rattle.layout.proofs.Parsing.{sets-length}
+use Rattle.layout.proofs.Padded.{length-padded}
+use Rattle.layout.proofs.SetsAt.{sets-length}
 use Rattle.client.specs.declared.Work.the-variants.{Read, Fill, Trim, Prune}
 use Rattle.client.specs.declared.Change.{Change}
 use Rattle.client.specs.declared.state.Job.{Job}

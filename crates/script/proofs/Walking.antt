@@ -11,7 +11,7 @@ use lib.Dec.{eqb, leb, ltb}
 use lib.ListN.{length, getD, drop, length-drop}
 use lib.Seq.{drop-drop}
 use Rattle.num.proofs.Tests.{and-both, left-step}
-use Rattle.layout.proofs.Bools.{same-test}
+use Rattle.num.proofs.Bools.{same-test}
 use Rattle.script.specs.Cue.{Cue}
 use Rattle.script.specs.Cue.Cue.{append, read, fill, trim, prune, reorganise, deliver, dropAt, stop, restart, giveUp, forget}
 use Rattle.script.specs.Steps.{cueBytes, cueAt, sizeAt, isTag, goodFlags, stands, hasRoom, isCue, nothing, gotAt, areCues}

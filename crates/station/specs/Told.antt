@@ -28,4 +28,4 @@ pub record IsTold (m : List ℕ) (e : Epoch) (p : Position) (kind at size n kind
 -- a seal, and the lent edge before and after it
 pub record IsSealTold (m : List ℕ) (e : Epoch) (edge n edge′ : ℕ) (after : List ℕ) : Type 0 where
   pub answered : IsAnswered m (seal e) n after
-  pub edge-is : edge′ ≡ told (answer (shapeOf m) m (seal e)) (reported (shapeOf m) m (seal e) .edge) edge
+  pub edge-is : edge′ ≡ told (answer (shapeOf m) m (seal e)) (reported (shapeOf m) m (seal e) .edges .edge .0) edge

@@ -76,7 +76,7 @@ pub extern "C" fn unit_seal(mem: &mut [u8], epoch: u32, edge: &mut u64) -> u8
     let done = seal(mem, Epoch(epoch));
     let answer = done.answer;
     if answer == 0 {
-        *edge = done.edge;
+        *edge = done.edges.edge.0;
     }
     answer
 }

@@ -3,6 +3,7 @@ pub mod Questions
 pub mod Fields
 pub mod Words
 pub mod Goodness
+pub mod Tags
 pub mod Checking
 pub mod Shapes
 pub mod Places

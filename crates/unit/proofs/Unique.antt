@@ -3,6 +3,7 @@ use Prim.Native.Nat.{ℕ}
 use mathlib.Core.Bool.{Bool}
 use mathlib.Core.List.{List}
 use mathlib.Core.Path.{_≡_}
+use Rattle.num.specs.declared.Edges.{Edges}
 use Rattle.num.specs.declared.Epoch.{Epoch}
 use Rattle.num.specs.declared.Position.{Position}
 use Rattle.unit.specs.Shape.{shapeOf}
@@ -19,10 +20,10 @@ module _ {m : List ℕ} {a b : ℕ} {m₁ m₂ : List ℕ} where
   pub answer-once : {r : Request} → IsAnswered m r a m₁ → IsAnswered m r b m₂ → (a ≡ b) × (m₁ ≡ m₂)
   answer-once x y = (once (x .answer-is) (y .answer-is), once (x .memory-is) (y .memory-is))
 
-  pub seal-once : {e : Epoch} {c d : ℕ} → IsSealed m e a c m₁ → IsSealed m e b d m₂ → (a ≡ b) × ((c ≡ d) × (m₁ ≡ m₂))
+  pub seal-once : {e : Epoch} {c d : Edges} → IsSealed m e a c m₁ → IsSealed m e b d m₂ → (a ≡ b) × ((c ≡ d) × (m₁ ≡ m₂))
   seal-once x y =
       let (n, left) = answer-once (x .answered) (y .answered) in
-      (n, (once (x .edge-is) (y .edge-is), left))
+      (n, (once (x .edges-is) (y .edges-is), left))
 
 pub read-once : {m : List ℕ} {e : Epoch} {p : Position} {a k s n b l t o : ℕ} → IsRead m e p a k s n → IsRead m e p b l t o → (a ≡ b) × ((k ≡ l) × ((s ≡ t) × (n ≡ o)))
 read-once x y = (once (x .answered .answer-is) (y .answered .answer-is), (once (x .kind-is) (y .kind-is), (once (x .start-is) (y .start-is), once (x .length-is) (y .length-is))))

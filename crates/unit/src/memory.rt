@@ -33,22 +33,13 @@ impl Unit {
     pub const SIZE: usize = 6168;
 }
 
-// Whether a slot of `cap` bytes of payload may have this second word, of its kind, its length and six zeros, whatever its position. `t` is one less: turned
-// by a byte it is the length where the kind is 1, and large otherwise; the other kinds have no length.
-fn good_tag(cap: usize, tag: u64, t: u64) -> bool
-    requires { ⌜ (cap ≤ 80) × ((t + 1) % 2 ^ 64 ≡ tag) ⌝ }
-    ensures { λ r. ⌜ r ≡ goodFields cap 0 0 (tag % 256) (tag / 256) ⌝ }
-{
-    ((t / 256 + t % 256 * 72_057_594_037_927_936) as usize <= cap) | (t <= 2)
-}
-
-// The length in a good second word, from one less than it, and of any other word some number below 128. Without a test, so that the compiler has no branch to
-// make of it.
-fn length_of(tag: u64, t: u64) -> usize
-    requires { ⌜ (t + 1) % 2 ^ 64 ≡ tag ⌝ }
+// A slot's second word has its kind, its length and six zeros. `t` is one less than it, and `turn` is `t` turned by a byte: the length where the kind is 1, and
+// large otherwise. This is the length in a good word, and of any other some number below 128; without a test, so that the compiler has no branch to make of it.
+fn length_of(tag: u64, t: u64, turn: u64) -> usize
+    requires { ⌜ ((t + 1) % 2 ^ 64 ≡ tag) × (turn ≡ t / 256 + t % 256 * 72057594037927936) ⌝ }
     ensures { λ r. ⌜ (r ≤ 127) × (1 ≤ tag % 256 → tag / 256 ≤ 80 → r ≡ tag / 256) ⌝ }
 {
-    (t / 256 % 128) as usize
+    (turn % 128) as usize
 }
 
 // What counts a slot that is not good.
@@ -56,6 +47,15 @@ fn fault(good: bool) -> u64
     ensures { λ r. ⌜ (r ≤ 1) × (eqb r 0 ≡ good) ⌝ }
 {
     if good { 0 } else { 1 }
+}
+
+// What counts a slot of `cap` bytes of payload that may not have this second word, whatever its position. A word that is not a length from 1 to `cap` with kind 1
+// is counted, and one of the three without a length is taken off: each a comparison and a sum with its carry, where a test of two ways out is more.
+fn tag_fault(cap: usize, tag: u64, t: u64, turn: u64) -> u64
+    requires { ⌜ (cap ≤ 80) × ((t + 1) % 2 ^ 64 ≡ tag) × (turn ≡ t / 256 + t % 256 * 72057594037927936) ⌝ }
+    ensures { λ r. ⌜ (r ≤ 1) × (eqb r 0 ≡ goodFields cap 0 0 (tag % 256) (tag / 256)) ⌝ }
+{
+    fault(std::num::wrapping_sub_u64(turn, 1) < cap as u64) - fault(2 < t)
 }
 
 // The word at `at`, of which only what stands under the full bytes of the ruler's word at `k` is left.
@@ -117,9 +117,10 @@ fn slots_good(mem: &[u8], cap: usize, count: u64, low: u64, full: &[u8]) -> bool
         let next = std::num::wrapping_add_u64(word_at(mem, at), 1);
         let tag = word_at(mem, at + Slot::KIND);
         let t = std::num::wrapping_sub_u64(tag, 1);
-        let k = 128 - length_of(tag, t);
+        let turn = t / 256 + t % 256 * 72_057_594_037_927_936;
+        let k = 128 - length_of(tag, t, turn);
         let rest = joined(mem, at + 48, cap - Shape::SMALL_PAYLOAD, full, k + 32);
-        faults = faults + fault((least < next) & good_tag(cap, tag, t) & (rest == 0));
+        faults = faults + fault((least < next) & (rest == 0)) + tag_fault(cap, tag, t, turn);
         a = a | masked(mem, at + Slot::PAYLOAD, full, k);
         b = b | masked(mem, at + 24, full, k + 8);
         c = c | masked(mem, at + 32, full, k + 16);

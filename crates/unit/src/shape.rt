@@ -28,6 +28,11 @@ impl Shape {
     pub const LARGE_PAYLOAD: usize = 80;
 
     pub const LARGE_SLOTS: u64 = 64;
+
+    // Bytes of a slot.
+    pub const SMALL_SLOT: usize = 48;
+
+    pub const LARGE_SLOT: usize = 96;
 }
 
 // The shape that a byte names; the small one where it names none.

@@ -6,6 +6,7 @@ use mathlib.Core.Bool.{true, false}
 use mathlib.Core.List.{[], _∷_}
 use Prim.Native.Nat.{ℕ}
 use lib.ListN.{replicate}
+use Rattle.num.specs.Edges.{largest, within}
 use Rattle.layout.specs.Lay.{rising, goodSet, goodSets, goodSpans, firstAtZero, used, good, _in?_, inSets, usedFrom, unitsOf}
 use Rattle.layout.specs.Value.{padded, layOf, valueOf, zeros, tidyChain, tidyChains, blankRanges, tidy, goodValue, blank}
 use Rattle.layout.specs.Places.{placed, setNumber, setAt, headOf, tailOf, after, above, placeAnswer, unitsAt}
@@ -25,14 +26,14 @@ use Rattle.client.specs.declared.Work.the-variants.{Read}
 use Rattle.rule.specs.declared.Letter.{Letter}
 use Rattle.rule.specs.declared.Body.the-variants.{Asks}
 use Rattle.rule.specs.Steps.{without as letters-without, turned, beginNumber, begins, served, taken, delivered, delivers, step}
-use Rattle.rule.specs.Serve.{kindOf, bytesOf, pageOf, shown, edged, asking, fetching, offeringTo, unitSays, unitAfter, serve}
+use Rattle.rule.specs.Serve.{kindOf, bytesOf, pageOf, pageShown, edged, asking, fetching, offeringTo, unitSays, unitAfter, serve}
 use Rattle.client.specs.Client.{idle, jobOf, reorganiseOf, noChange}
 use Rattle.client.specs.Turn.{ends, sends}
 use Rattle.client.specs.Append.{writesAt, writesOn}
 use Rattle.client.specs.Begin.{beginTurn}
 use Rattle.client.specs.Read.{pageTaken}
 use Rattle.client.specs.Take.{holds, worksOn, awaited, takes}
-use Rattle.client.specs.Reorganise.{allSealed, sealsOn, reorganises, larger, edgeTaken}
+use Rattle.client.specs.Reorganise.{allSealed, sealsOn, reorganises, edgesTaken}
 use Rattle.rule.specs.World.{letterAt}
 use Rattle.rule.specs.Fresh.{freshUnits, freshWorld}
 use Rattle.history.specs.Words.Page.{bytes}
@@ -76,7 +77,7 @@ record Ran : Type 0 where
 
 -- by the rules, computed; the first read's end is `read-ends` of RunExample
 computed : Ran
-unfolding rising goodSet goodSets goodSpans firstAtZero used good _in?_ inSets usedFrom unitsOf padded layOf valueOf zeros tidyChain tidyChains blankRanges tidy goodValue placed setNumber setAt headOf tailOf after above placeAnswer unitsAt without badDrops emptied planned lastStart goodChains reorganiseAnswer plannedFor isOpen settleAnswer settled settledFirst startedAt offerAnswer offeredTo fetchedFrom sublist keepsSets keepsSpans lawful lookup insert lastEnd edge written sealedAt number position told sequencer-after idle sends dataLimit shapeFor writesAt writesOn beginTurn holds worksOn isShowable pageTaken awaited takes allSealed sealsOn reorganises larger edgeTaken letters-without turned beginNumber begins served taken delivered delivers step kindOf bytesOf pageOf shown edged asking fetching offeringTo unitSays unitAfter serve freshUnits freshWorld worldBy isPage hasBytes isGone unit-says unit-after report
+unfolding rising goodSet goodSets goodSpans firstAtZero used good _in?_ inSets usedFrom unitsOf padded layOf valueOf zeros tidyChain tidyChains blankRanges tidy goodValue placed setNumber setAt headOf tailOf after above placeAnswer unitsAt without badDrops emptied planned lastStart goodChains reorganiseAnswer plannedFor isOpen settleAnswer settled settledFirst startedAt offerAnswer offeredTo fetchedFrom sublist keepsSets keepsSpans lawful lookup insert lastEnd edge written sealedAt number position told sequencer-after idle sends dataLimit shapeFor writesAt writesOn beginTurn holds worksOn isShowable pageTaken awaited takes allSealed sealsOn reorganises largest within edgesTaken letters-without turned beginNumber begins served taken delivered delivers step kindOf bytesOf pageOf pageShown edged asking fetching offeringTo unitSays unitAfter serve freshUnits freshWorld worldBy isPage hasBytes isGone unit-says unit-after report
 computed = record {
   first-reached = record {
     earlier = all-of;

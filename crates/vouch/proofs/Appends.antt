@@ -9,7 +9,7 @@ use Rattle.num.specs.declared.Position.{Position}
 use Rattle.layout.specs.Value.{layOf, goodValue}
 use Rattle.layout.specs.Places.{setAt, headOf, tailOf, after}
 use Rattle.client.specs.declared.Reply.{Reply}
-use Rattle.client.specs.declared.Reply.the-variants.{Held, Given, Fine, Shown, Edge, Refused}
+use Rattle.client.specs.declared.Reply.the-variants.{Held, Given, Fine, Shown, Edged, Refused}
 use Rattle.client.specs.declared.Phase.the-variants.{Drawing, Writing}
 use Rattle.client.specs.declared.Client.{Client}
 use Rattle.client.specs.Message.{noPage, plain, bearing}
@@ -77,7 +77,7 @@ module _ {h : History} (run : Run h) (c : Client) where
       go (Given p) = token-cases (TurnOk h c) c n p (at p) (λ past. rests-ok)
       go Fine = other 0
       go Shown = other 0
-      go (Edge p) = other 0
+      go (Edged p) = other 0
       go (Refused k) = other k
 
   module _ (u n : ℕ) (ok : WritingOk h (c .work) (c .layout) (c .position .0) (carried (c .page)) u) where

@@ -37,7 +37,7 @@ use Rattle.history.specs.History._⊑_.{here, later}
 use Rattle.history.specs.History.Noted.{noted-now, noted-before}
 use Rattle.history.specs.History.MarkNoted.{by-fill}
 use Rattle.history.specs.Events.Run.{run-step}
-use Rattle.vouch.proofs.Carried.{pageOf, carried}
+use Rattle.vouch.proofs.Carried.{pageWith, carried}
 use Rattle.vouch.specs.Runs.{Move, Moves, world}
 use Rattle.vouch.proofs.Fields.{Wants, Asked}
 use Rattle.vouch.specs.Runs.Moves.{_▸_}
@@ -72,7 +72,7 @@ pub data-carried : (n : ℕ) (xs : List ℕ) → carried (dataPage n xs) ≡ byt
 unfolding kindOf
 data-carried n xs = go (leb n pageLimit)
   where
-    go : (b : Bool) → pageOf (cond b 1 0) (bytesOf (dataPage n xs)) ≡ bytes (bytesOf (dataPage n xs))
+    go : (b : Bool) → pageWith (cond b 1 0) (bytesOf (dataPage n xs)) ≡ bytes (bytesOf (dataPage n xs))
     go true = refl
     go false = refl
 

@@ -10,8 +10,8 @@ use Rattle.history.specs.Words.{Page}
 use Rattle.history.specs.Words.Page.{junk, bytes}
 
 -- kind 2 is junk, kind 1 data; no unit takes another kind
-abbrev pub pageOf : ℕ → List ℕ → Page
-pageOf kind payload = cond (eqb kind 2) junk (bytes payload)
+abbrev pub pageWith : ℕ → List ℕ → Page
+pageWith kind payload = cond (eqb kind 2) junk (bytes payload)
 
 abbrev pub carried : PageValue → Page
-carried g = pageOf (kindOf g) (bytesOf g)
+carried g = pageWith (kindOf g) (bytesOf g)

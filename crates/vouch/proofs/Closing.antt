@@ -8,7 +8,7 @@ use Rattle.num.specs.declared.Position.{Position}
 use Rattle.layout.specs.declared.Layout.{Layout}
 use Rattle.layout.specs.Value.{layOf, goodValue}
 use Rattle.layout.specs.Places.{setAt, headOf}
-use Rattle.layout.proofs.Values.{value-of-good}
+use Rattle.layout.proofs.ValueOf.{value-of-good}
 use Rattle.unit.specs.declared.shape.Shape.{Shape}
 use Rattle.unit.specs.State.{State}
 use Rattle.unit.proofs.Shown.{shown, shown-limit}

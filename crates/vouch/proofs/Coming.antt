@@ -7,7 +7,7 @@ use native.Mathlib.Omega.{arith}
 use lib.ListN.{getD, replicate}
 use Rattle.layout.specs.declared.Layout.{Layout}
 use Rattle.layout.specs.Value.{layOf, goodValue}
-use Rattle.layout.proofs.Values.{value-of-good}
+use Rattle.layout.proofs.ValueOf.{value-of-good}
 use Rattle.unit.specs.State.{State}
 use Rattle.unit.specs.Unit.{freshUnit}
 use Rattle.client.specs.declared.Client.{Client}

@@ -65,9 +65,9 @@ use Rattle.vouch.proofs.Meaning.AskOk.{look-ok}
 use Rattle.vouch.proofs.Together.{letter-there, RequestOk, BodyOk, clientOf}
 use Rattle.vouch.proofs.Coming.{come, outcome-of, come-part}
 use Rattle.vouch.proofs.EndingSteps.{Took, How, how}
-use Rattle.vouch.proofs.ReadEnding.{Told, Tells, returned-told, Heard, heard}
+use Rattle.vouch.proofs.ReadEnding.{ReadTold, Tells, returned-told, Heard, heard}
 use Rattle.vouch.proofs.EndingSteps.How.{took, gave-up}
-use Rattle.vouch.proofs.ReadEnding.Told.{told-answer, told-spent}
+use Rattle.vouch.proofs.ReadEnding.ReadTold.{told-answer, told-spent}
 use Rattle.vouch.proofs.ReadEnding.Tells.{tells-page, tells-trimmed, tells-unwritten}
 use Rattle.vouch.proofs.Fields.Returns.{returns-page, returns-trimmed, returns-unwritten}
 
@@ -230,7 +230,7 @@ module _ (l : Layout) (good : goodValue l ≡ true) (first : l .epoch .0 ≡ 1) 
         no-return (returns-unwritten e) is n0 n5 n7 = absurd (n7 (sym is ∙ e))
 
         by-told : (t : Took w (m .does) (m .job) (read .client)) (h : Heard l ms (at ms) w (read .client) (m .does) (m .job) (letterAt w (t .place)) (t .reply)) →
-            Told (clientAt w (read .client)) (h .answered-it .ask) (response (t .reply) (letterAt w (t .place))) (h .turn) → Tells resp r
+            ReadTold (clientAt w (read .client)) (h .answered-it .ask) (response (t .reply) (letterAt w (t .place))) (h .turn) → Tells resp r
         by-told t h (told-spent is-held number) =
             no-return (read .returns) (ap (λ (x : Outcome). x .number) (h .outcome-is) ∙ number) (λ z. omega (arith, z)) (λ z. omega (arith, z)) (λ z. omega (arith, z))
         by-told t h (told-answer u ask-is work-is below turn-is) =

@@ -9,10 +9,12 @@ use borrow.Author.Tests.{eq-eqb, ne-eqb, le-leb, leb-true, not-true, eqb-true}
 use lib.Dec.{eqb, leb}
 use lib.ListN.{length, getD}
 use Rattle.num.proofs.Tests.{and-both, false-true, neither}
+use Rattle.num.proofs.Bools.{and-intro}
 use Rattle.layout.specs.Lay.{_in?_, inSets, unitsOf}
 use Rattle.layout.specs.Plan.{without, badDrops, emptied}
-use Rattle.layout.proofs.Bools.{and-intro}
-use Rattle.layout.proofs.Sets.{in-some, units-in, units-rise, rising-within}
+use Rattle.layout.proofs.InSets.{in-some}
+use Rattle.layout.proofs.UnitsOf.{units-in, units-rise}
+use Rattle.layout.proofs.Rising.{rising-within}
 use Rattle.rule.specs.World.{isUnit, running}
 use Rattle.vouch.specs.LastSentence.{stoppedFrom, WorkingUnit}
 

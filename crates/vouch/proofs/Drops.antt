@@ -12,11 +12,13 @@ use Rattle.layout.specs.declared.Wish.{Wish}
 use Rattle.layout.specs.Lay.{Lay, _in?_, inSets, goodSet, goodSets}
 use Rattle.layout.specs.Value.{layOf, valueOf}
 use Rattle.layout.specs.Plan.{without, badDrops, emptied, planned, planAnswer, reorganiseAnswer, plannedFor, goodChains}
-use Rattle.layout.proofs.Values.{value-of-good}
-use Rattle.layout.proofs.Goodness.{Good, good-says}
-use Rattle.layout.proofs.Goods.{is-good-set}
-use Rattle.layout.proofs.Planning.{fine-checks, fine-reorganise, planned-fine}
-use Rattle.layout.proofs.Sets.{in-first, in-later, in-units, rising-within}
+use Rattle.layout.proofs.ValueOf.{value-of-good}
+use Rattle.layout.proofs.GoodLay.{Good, good-says}
+use Rattle.layout.proofs.GoodSets.{is-good-set}
+use Rattle.layout.proofs.ReorganiseAnswer.{fine-checks, fine-reorganise, planned-fine}
+use Rattle.layout.proofs.InSets.{in-first, in-later}
+use Rattle.layout.proofs.UnitsOf.{in-units}
+use Rattle.layout.proofs.Rising.{rising-within}
 use Rattle.num.proofs.Tests.{and-both}
 use Rattle.client.specs.declared.state.Job.{Job}
 use Rattle.client.specs.Way.{dropsOf}

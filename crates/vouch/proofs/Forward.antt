@@ -10,6 +10,7 @@ use borrow.Author.Tests.{lt-ltb, le-ltb, lt-leb, le-leb}
 use lib.Dec.{leb, ltb}
 use lib.ListN.{length, getD, set, length-set}
 use lib.Seq.{getD-set-same, getD-set-other}
+use Rattle.num.specs.declared.Edges.{Edges}
 use Rattle.num.specs.Limits.{limit, lastEpoch}
 use Rattle.num.specs.declared.Epoch.{Epoch}
 use Rattle.num.specs.declared.Position.{Position}
@@ -19,16 +20,15 @@ use Rattle.layout.specs.Value.{layOf, valueOf, goodValue}
 use Rattle.layout.specs.Places.{above}
 use Rattle.layout.specs.Plan.{planned, planAnswer, startAnswer, firstFree, reorganiseAnswer, plannedFor, startedAt, goodChains}
 use Rattle.layout.specs.Holder.{offeredTo}
-use Rattle.layout.proofs.Values.{value-of-good}
-use Rattle.layout.proofs.Goodness.{Good, good-says}
-use Rattle.layout.proofs.Planning.{fine-checks, fine-reorganise, planned-fine}
-use Rattle.layout.proofs.Plans.{plan-back}
-use Rattle.layout.proofs.Settling.{plan-started, reorganise-installs}
-use Rattle.layout.proofs.Holding.{Installs, fine-offer}
-use Rattle.layout.proofs.Holding.{installed as offer-installed}
-use Rattle.layout.proofs.Sets.{rises}
+use Rattle.layout.proofs.ValueOf.{value-of-good}
+use Rattle.layout.proofs.GoodLay.{Good, good-says}
+use Rattle.layout.proofs.ReorganiseAnswer.{fine-checks, fine-reorganise, planned-fine}
+use Rattle.layout.proofs.Planned.{plan-back}
+use Rattle.layout.proofs.StartedPlan.{plan-started, reorganise-installs}
+use Rattle.layout.proofs.OfferedTo.{Installs, fine-offer, installed as offer-installed}
+use Rattle.layout.proofs.Rising.{rises}
 use Rattle.unit.specs.declared.shape.Shape.{Shape}
-use Rattle.unit.specs.State.{State, edge}
+use Rattle.unit.specs.State.{State, edges}
 use Rattle.unit.specs.Memory.{valid}
 use Rattle.unit.specs.Unit.{freshUnit, says, after as unit-after, report}
 use Rattle.unit.specs.Unit.Request.{seal}
@@ -38,7 +38,7 @@ use Rattle.sequencer.specs.declared.Asked.the-variants.{Start}
 use Rattle.sequencer.specs.declared.Told.the-variants.{Number}
 use Rattle.sequencer.specs.Rules.{number, told, after}
 use Rattle.sequencer.specs.Rules.{position as positionAt}
-use Rattle.client.specs.declared.Reply.the-variants.{Edge}
+use Rattle.client.specs.declared.Reply.the-variants.{Edged}
 use Rattle.client.specs.Client.{noChange}
 use Rattle.rule.specs.World.{World, shapeUnder, running, unitAt}
 use Rattle.rule.specs.Serve.{edged}
@@ -87,9 +87,9 @@ module _ (w : World) (c : ℕ) (sound : Sound w) (may : Conditions w c) where
   pub plan-is : plannedFor (w .held) (stoppedUnits w) (noChange .wish) ≡ record { answer = 0; layout = offered }
   plan-is = sym (planned-fine (w .held) (stoppedUnits w) (noChange .wish) offered reorganise-none refl)
 
-  pub start-is : (g : ℕ) → startedAt offered g ≡ record { answer = 0; layout = offered; first = record { 0 = g } }
+  pub start-is : (e : Edges) → startedAt offered e ≡ record { answer = 0; layout = offered; first = e .edge }
   unfolding startAnswer firstFree planned
-  start-is g = plan-started held-lay (stoppedUnits w) [] g held-good plan-fine
+  start-is e = plan-started held-lay (stoppedUnits w) [] e held-good plan-fine
 
   installs : Installs (w .held) offered
   unfolding startAnswer planned
@@ -159,7 +159,7 @@ seal-says : (sh : Shape) (M : State) (e : Epoch) → M .sealed ≤ e .0 → says
 unfolding says
 seal-says sh M e le = pass _ _ (ltb (e .0) (M .sealed)) (le-ltb (e .0) (M .sealed) le)
 
-pub seal-tells : (sh : Shape) (M : State) (e : Epoch) → M .sealed ≤ e .0 → edged sh M e ≡ Edge (record { 0 = edge M })
+pub seal-tells : (sh : Shape) (M : State) (e : Epoch) → M .sealed ≤ e .0 → edged sh M e ≡ Edged (edges M)
 unfolding edged report
 seal-tells sh M e le = rw (seal-says sh M e le)
 

@@ -13,10 +13,13 @@ use Rattle.layout.specs.Lay.{Lay, rising, good, _in?_, unitsOf}
 use Rattle.layout.specs.Value.{layOf}
 use Rattle.layout.specs.Places.{setAt}
 use Rattle.layout.specs.Successor.{lawful}
-use Rattle.layout.proofs.Goodness.{good-says}
-use Rattle.layout.proofs.Goods.{set-at-good, is-good-set}
-use Rattle.layout.proofs.Sets.{in-none, in-cases, in-first, in-later, rises, rising-within, units-rise, in-units}
-use Rattle.layout.proofs.Succession.{Kept, unit-kept, one-stays, at-in-units}
+use Rattle.layout.proofs.GoodLay.{good-says}
+use Rattle.layout.proofs.SetNumber.{set-at-good}
+use Rattle.layout.proofs.GoodSets.{is-good-set}
+use Rattle.layout.proofs.InSets.{in-none, in-cases, in-first, in-later}
+use Rattle.layout.proofs.Rising.{rises, rising-within}
+use Rattle.layout.proofs.UnitsOf.{units-rise, in-units, at-in-units}
+use Rattle.layout.proofs.Lawful.{Kept, unit-kept, one-stays}
 use Rattle.history.specs.Words.{UnitNo, Pos, _∈_, Rising}
 use Rattle.history.specs.Words._∈_.{first, next}
 use Rattle.history.specs.Words.Rising.{rising-none, rising-more}

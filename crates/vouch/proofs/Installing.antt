@@ -7,8 +7,10 @@ use Prim.Native.Nat.{ℕ, _+_, _≤_, _<_}
 use native.Mathlib.Omega.{arith}
 use lib.ListN.{length}
 use Rattle.num.specs.Limits.{limit}
+use Rattle.num.specs.declared.Edges.{Edges}
 use Rattle.num.specs.declared.Position.{Position}
 use Rattle.num.specs.declared.Request.{Request}
+use Rattle.num.proofs.Within.{Within}
 use Rattle.layout.specs.declared.Layout.{Layout}
 use Rattle.layout.specs.declared.plan.Started.{Started}
 use Rattle.layout.specs.declared.holder.Offered.{Offered}
@@ -129,14 +131,18 @@ module _ (w : World) (c : ℕ) (sound : Sound w) (may : Conditions w c) where
 
   -- ---- the offer
 
-  module _ (us : List State) (y : Client) (p : Position) (on : UnitsOn w us) (plans : y .plan ≡ plan) (under : goodValue (y .layout) ≡ true) (few : p .0 ≤ limit) (left : y .used .0 + 4 ≤ lastNumber) where
+  module _ (us : List State) (y : Client) (e : Edges) (on : UnitsOn w us) (plans : y .plan ≡ plan) (under : goodValue (y .layout) ≡ true) (few : Within limit e) (left : y .used .0 + 4 ≤ lastNumber) where
+    -- where the sequencer is to start
+    abbrev p : Position
+    p = e .edge
+
     abbrev y₂ : Client
     y₂ = inPhase (planning y plan) (Offering p)
 
-    offers-so : allSealed y p ≡ sends y₂ (offering plan)
+    offers-so : allSealed y e ≡ sends y₂ (offering plan)
     offers-so =
-        let starts-so = ap (λ (l : Layout). startedAt l (p .0)) plans ∙ start-is w c sound may (p .0) in
-        start-cases (λ (t : Turn). t ≡ sends y₂ (offering plan)) y p (λ fine. ap (λ (o : Started). offers (planning y (o .layout)) (o .first)) starts-so)
+        let starts-so = ap (λ (l : Layout). startedAt l e) plans ∙ start-is w c sound may e in
+        start-cases (λ (t : Turn). t ≡ sends y₂ (offering plan)) y e (λ fine. ap (λ (o : Started). offers (planning y (o .layout)) (o .first)) starts-so)
         (λ failed. absurd (failed (ap (λ (o : Started). o .answer) starts-so)))
 
     offer-asked : Asked w c (w .letters) (may .is-client) (sound .four-clients) (may .few-letters) k plan us us s s y₂ (offering plan) (bare Fine)
@@ -161,14 +167,14 @@ module _ (w : World) (c : ℕ) (sound : Sound w) (may : Conditions w c) where
     plan-after : x₂ .plan ≡ plan
     plan-after = refl
 
-    pub offer-comes : Comes us (allSealed y p) 2
+    pub offer-comes : Comes us (allSealed y e) 2
     unfolding exchanges
     offer-comes = record {
-      end = last-done us x₂ p on plan-after under few start-left-after;
+      end = last-done us x₂ p on plan-after under (few .edge) start-left-after;
       run =
           as-turn w c (w .letters) offers-so
           (sends-on w c (w .letters) y₂ (offering plan) offer-left
           (exchange-on w c (w .letters) (may .is-client) (sound .four-clients) (may .few-letters) offer-asked
-          (as-turn w c (w .letters) offer-taken (start-goes us x₂ p on plan-after under few start-left-after))));
-      well = start-well us x₂ p on plan-after under few start-left-after;
+          (as-turn w c (w .letters) offer-taken (start-goes us x₂ p on plan-after under (few .edge) start-left-after))));
+      well = start-well us x₂ p on plan-after under (few .edge) start-left-after;
     }

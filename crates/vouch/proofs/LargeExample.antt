@@ -27,7 +27,7 @@ use Rattle.client.specs.Begin.{beginTurn}
 use Rattle.client.specs.Read.{pageTaken}
 use Rattle.client.specs.Take.{holds, worksOn, awaited, takes}
 use Rattle.rule.specs.Steps.{without, turned, beginNumber, begins, served, taken, delivered, delivers, step}
-use Rattle.rule.specs.Serve.{kindOf, bytesOf, pageOf, shown, asking, fetching, unitSays, unitAfter, serve}
+use Rattle.rule.specs.Serve.{kindOf, bytesOf, pageOf, pageShown, asking, fetching, unitSays, unitAfter, serve}
 use Rattle.rule.specs.Fresh.{freshUnits, freshWorld}
 use Rattle.history.specs.Words.Page.{bytes}
 use Rattle.history.specs.Words.Answer.{shows}
@@ -73,7 +73,7 @@ record Ran : Type 0 where
 
 -- by the rules, computed
 computed : Ran
-unfolding padded layOf valueOf zeros tidyChain tidyChains blankRanges tidy goodValue rising goodSet goodSets goodSpans firstAtZero used good placed setNumber setAt headOf tailOf after placeAnswer unitsAt fetchedFrom shapeFor lookup insert written number position told sequencer-after idle sends dataLimit writesAt writesOn beginTurn holds worksOn isShowable pageTaken awaited takes without turned beginNumber begins served taken delivered delivers step kindOf bytesOf asking fetching unitSays unitAfter serve freshUnits freshWorld worldBy pageOf shown isPage hasBytes isGone unit-says unit-after report
+unfolding padded layOf valueOf zeros tidyChain tidyChains blankRanges tidy goodValue rising goodSet goodSets goodSpans firstAtZero used good placed setNumber setAt headOf tailOf after placeAnswer unitsAt fetchedFrom shapeFor lookup insert written number position told sequencer-after idle sends dataLimit writesAt writesOn beginTurn holds worksOn isShowable pageTaken awaited takes without turned beginNumber begins served taken delivered delivers step kindOf bytesOf asking fetching unitSays unitAfter serve freshUnits freshWorld worldBy pageOf pageShown isPage hasBytes isGone unit-says unit-after report
 computed = record {
   l-is-good = refl;
   append-ran = record {

@@ -8,13 +8,14 @@ use mathlib.Core.Logic.{⊎-elim}
 use Prim.Native.Nat.{ℕ, zero, suc, _<_}
 use native.Mathlib.Omega.{arith}
 use lib.ListN.{length, getD, replicate}
+use Rattle.num.specs.Edges.{largest, within as edges-within}
 use Rattle.layout.specs.Lay.{rising, goodSet, goodSets, goodSpans, firstAtZero, used, good, _in?_, inSets, usedFrom, unitsOf}
 use Rattle.layout.specs.Value.{padded, layOf, valueOf, zeros, tidyChain, tidyChains, blankRanges, tidy, goodValue}
 use Rattle.layout.specs.Places.{placed, setNumber, setAt, headOf, tailOf, after, above, placeAnswer, unitsAt}
 use Rattle.layout.specs.Plan.{without, badDrops, emptied, planned, lastStart, goodChains, reorganiseAnswer, plannedFor, isOpen, settleAnswer, settled, settledFirst, startedAt}
 use Rattle.layout.specs.Holder.{offerAnswer, offeredTo, fetchedFrom}
 use Rattle.layout.specs.Successor.{sublist, keepsSets, keepsSpans, lawful}
-use Rattle.layout.proofs.Sets.{in-none, in-cases}
+use Rattle.layout.proofs.InSets.{in-none, in-cases}
 use Rattle.unit.specs.Shape.{shapeFor}
 use Rattle.unit.specs.State.{lookup, insert, lastEnd, edge}
 use Rattle.unit.specs.Kinds.{isPage, hasBytes, isGone}
@@ -29,13 +30,13 @@ use Rattle.rule.specs.declared.Step.{Step}
 use Rattle.rule.specs.declared.Step.the-variants.{Drop, Stop, GiveUp}
 use Rattle.rule.specs.World.{isUnit, running, clientAt}
 use Rattle.rule.specs.Steps.{without as letters-without, turned, beginNumber, begins, served, taken, delivered, delivers, drops as drops-letter, stops, givesUp, step}
-use Rattle.rule.specs.Serve.{kindOf, bytesOf, pageOf, shown, edged, asking, fetching, offeringTo, unitSays, unitAfter, serve}
+use Rattle.rule.specs.Serve.{kindOf, bytesOf, pageOf, pageShown, edged, asking, fetching, offeringTo, unitSays, unitAfter, serve}
 use Rattle.client.specs.Turn.{ends, sends}
 use Rattle.client.specs.Append.{writesAt, writesOn}
 use Rattle.client.specs.Begin.{beginTurn, giveUp}
 use Rattle.client.specs.Read.{pageTaken}
 use Rattle.client.specs.Take.{holds, worksOn, awaited, takes}
-use Rattle.client.specs.Reorganise.{allSealed, sealsOn, reorganises, larger, edgeTaken}
+use Rattle.client.specs.Reorganise.{allSealed, sealsOn, reorganises, edgesTaken}
 use Rattle.rule.specs.Fresh.{freshUnits, freshWorld}
 use Rattle.history.specs.Words.Page.{bytes}
 use Rattle.history.specs.Words.Answer.{shows}
@@ -94,7 +95,7 @@ record Ran : Type 0 where
 
 -- by the rules, computed
 computed : Ran
-unfolding rising goodSet goodSets goodSpans firstAtZero used good _in?_ inSets usedFrom unitsOf padded layOf valueOf zeros tidyChain tidyChains blankRanges tidy goodValue placed setNumber setAt headOf tailOf after above placeAnswer unitsAt without badDrops emptied planned lastStart goodChains reorganiseAnswer plannedFor isOpen settleAnswer settled settledFirst startedAt offerAnswer offeredTo fetchedFrom sublist keepsSets keepsSpans lawful lookup insert lastEnd edge written sealedAt number position told sequencer-after idle sends dataLimit shapeFor writesAt writesOn beginTurn giveUp holds worksOn isShowable pageTaken awaited takes allSealed sealsOn reorganises larger edgeTaken letters-without turned beginNumber begins served taken delivered delivers drops-letter stops givesUp step kindOf bytesOf pageOf shown edged asking fetching offeringTo unitSays unitAfter serve freshUnits freshWorld worldBy stoppedFrom isPage hasBytes isGone unit-says unit-after report
+unfolding rising goodSet goodSets goodSpans firstAtZero used good _in?_ inSets usedFrom unitsOf padded layOf valueOf zeros tidyChain tidyChains blankRanges tidy goodValue placed setNumber setAt headOf tailOf after above placeAnswer unitsAt without badDrops emptied planned lastStart goodChains reorganiseAnswer plannedFor isOpen settleAnswer settled settledFirst startedAt offerAnswer offeredTo fetchedFrom sublist keepsSets keepsSpans lawful lookup insert lastEnd edge written sealedAt number position told sequencer-after idle sends dataLimit shapeFor writesAt writesOn beginTurn giveUp holds worksOn isShowable pageTaken awaited takes allSealed sealsOn reorganises largest edges-within edgesTaken letters-without turned beginNumber begins served taken delivered delivers drops-letter stops givesUp step kindOf bytesOf pageOf pageShown edged asking fetching offeringTo unitSays unitAfter serve freshUnits freshWorld worldBy stoppedFrom isPage hasBytes isGone unit-says unit-after report
 computed = record {
   yard-left = record {
     nobody = refl;

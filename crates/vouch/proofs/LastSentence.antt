@@ -10,6 +10,7 @@ use lib.Dec.{leb}
 use lib.ListN.{length, length-set, length-append}
 use lib.Seq.{getD-set-same}
 use Rattle.num.specs.Limits.{limit}
+use Rattle.num.specs.Edges.{noEdges}
 use Rattle.num.specs.declared.Epoch.{Epoch}
 use Rattle.num.specs.declared.Position.{Position}
 use Rattle.num.proofs.Tests.{and-both}
@@ -18,11 +19,13 @@ use Rattle.layout.specs.declared.Layout.{Layout}
 use Rattle.layout.specs.Lay.{Lay, good, _in?_}
 use Rattle.layout.specs.Value.{layOf, valueOf}
 use Rattle.layout.specs.Places.{setAt, tailOf}
-use Rattle.layout.proofs.Values.{value-of-good}
-use Rattle.layout.proofs.Goodness.{good-says}
-use Rattle.layout.proofs.Goods.{is-good-set, set-at-good}
-use Rattle.layout.proofs.Succession.{at-in-units}
-use Rattle.layout.proofs.Sets.{tail-in, rising-within, units-rise}
+use Rattle.layout.proofs.ValueOf.{value-of-good}
+use Rattle.layout.proofs.GoodLay.{good-says}
+use Rattle.layout.proofs.GoodSets.{is-good-set}
+use Rattle.layout.proofs.SetNumber.{set-at-good}
+use Rattle.layout.proofs.UnitsOf.{at-in-units, units-rise}
+use Rattle.layout.proofs.HeadAndTail.{tail-in}
+use Rattle.layout.proofs.Rising.{rising-within}
 use Rattle.unit.specs.declared.shape.Shape.{Shape}
 use Rattle.unit.specs.State.{State}
 use Rattle.unit.specs.Unit.{Report, says, report}
@@ -116,9 +119,9 @@ module _ (w : World) (c : ℕ) (sound : Sound w) (may : Conditions w c) (j : Job
   plans : planFor f ≡ record { answer = 0; layout = plan }
   plans = any-plan w c sound may j drops
 
-  goes-by : goesOn Reorganise f ≡ sealsOn y 0 (record { 0 = 0 })
+  goes-by : goesOn Reorganise f ≡ sealsOn y 0 noEdges
   goes-by =
-      plan-cases (λ (t : Turn). t ≡ sealsOn y 0 (record { 0 = 0 })) f (λ fine. ap (λ (q : Planned). sealsOn (planning f (q .layout)) 0 (record { 0 = 0 })) plans)
+      plan-cases (λ (t : Turn). t ≡ sealsOn y 0 noEdges) f (λ fine. ap (λ (q : Planned). sealsOn (planning f (q .layout)) 0 noEdges) plans)
       (λ failed. absurd (failed (ap (λ (q : Planned). q .answer) plans)))
 
   way : OnWay w c sound may y
@@ -130,9 +133,9 @@ module _ (w : World) (c : ℕ) (sound : Sound w) (may : Conditions w c) (j : Job
   abbrev us : List ℕ
   us = units w c sound may
 
-  pub comes : Comes w c sound may (w .units) (sealsOn y 0 (record { 0 = 0 })) (requests us)
+  pub comes : Comes w c sound may (w .units) (sealsOn y 0 noEdges) (requests us)
   comes =
-      seals-come w c sound may (walk-all 0 us (units-rise (newLayout w .sets))) (w .units) y (record { 0 = 0 }) (units-at-first w sound) way (omega arith)
+      seals-come w c sound may (walk-all 0 us (units-rise (newLayout w .sets))) (w .units) y noEdges (units-at-first w sound) way (record { edge = omega arith })
       (omega (arith, requests-count us, used-one, may .numbers-left))
 
   pub reorganise-goes : Goes step w (reorganising w c job) (comes .end)

@@ -24,7 +24,7 @@ use Rattle.history.proofs.Edges.{sealed-at-on, edge-at-on}
 use Rattle.vouch.proofs.Offers.{OfferOk}
 use Rattle.vouch.proofs.Meaning.{AskOk, Saw, Means, WorkOk, Fetched, Walking, StageOk}
 use Rattle.vouch.proofs.Meaning.AskOk.{fetch-ok, token-ok, write-ok, look-ok, trim-ok, prune-ok, seal-ok, offer-ok, start-ok}
-use Rattle.vouch.proofs.Meaning.Means.{means-held, means-token, means-wrote, means-written, means-no-write, means-shown, means-trimmed, means-unwritten, means-no-read, means-cut, means-no-cut, means-pruned, means-no-prune, means-edge, means-no-seal, means-installed, means-no-install, means-start}
+use Rattle.vouch.proofs.Meaning.Means.{means-held, means-token, means-wrote, means-written, means-no-write, means-shown, means-trimmed, means-unwritten, means-no-read, means-cut, means-no-cut, means-pruned, means-no-prune, means-edges, means-no-seal, means-installed, means-no-install, means-start}
 
 pub held-later : {h₁ h₂ : History} → Run h₂ → h₁ ⊑ h₂ → held h₁ .epoch ≤ held h₂ .epoch
 held-later run here = omega arith
@@ -75,7 +75,7 @@ module _ {h₁ h₂ : History} (run : Run h₂) (part : h₁ ⊑ h₂) where
   means-on means-no-cut = means-no-cut
   means-on (means-pruned mks) = means-pruned (λ p below. by-on part (mks p below))
   means-on means-no-prune = means-no-prune
-  means-on (means-edge s e) = means-edge (sealed-at-on run part s) (edge-at-on run part s e)
+  means-on (means-edges s e) = means-edges (sealed-at-on run part s) (edge-at-on run part s e)
   means-on means-no-seal = means-no-seal
   means-on (means-installed {k = k} low) = means-installed {k = k} (omega (arith, held-later run part))
   means-on means-no-install = means-no-install

@@ -20,7 +20,7 @@ use Rattle.rule.specs.declared.Letter.{Letter}
 use Rattle.rule.specs.World.{shapeUnder, unitAt, clientAt}
 use Rattle.rule.specs.Lent.{Lent, Outcomes, fetched, lentNumber, seen, laid, left, done, steps}
 use Rattle.rule.specs.Fresh.{freshWorld, freshLent, freshNumberOf, freshNumber, makes}
-use Rattle.rule.proofs.Leaving.{Fit, Told, Lendable, Room, all-from, left-room, left-seen, left-number}
+use Rattle.rule.proofs.Leaving.{Fit, HoldsGood, Lendable, Room, all-from, left-room, left-seen, left-number}
 use Rattle.history.specs.History.{History}
 use Rattle.vouch.specs.Runs.{Move, Moves, result, world, worldBy}
 use Rattle.vouch.specs.Runs.Moves.{none, _▸_}
@@ -59,7 +59,7 @@ module _ (l : Layout) (good-layout : goodValue l ≡ true) (first : l .epoch .0 
         units-fit = all-from (Fit (shapeUnder (w .held))) freshUnit 8 1 (w .units) (t .eight) (λ i lt. unit i lt);
         eight = t .eight;
         held-good = c .good .machines .held-good;
-        clients-fit = all-from Told (λ k. fresh) 4 1 (w .clients) (c .good .clients-long) (λ i lt. client i lt);
+        clients-fit = all-from HoldsGood (λ k. fresh) 4 1 (w .clients) (c .good .clients-long) (λ i lt. client i lt);
         few = t .few;
       }
     where
@@ -73,11 +73,11 @@ module _ (l : Layout) (good-layout : goodValue l ≡ true) (first : l .epoch .0 
           } in
           subst (λ j. Fit (shapeUnder (world l ms .held)) (1 + i) (getD (world l ms .units) j (freshUnit (1 + i)))) at fit
 
-      client : (i : ℕ) → i < 4 → Told (1 + i) (getD (world l ms .clients) i fresh)
+      client : (i : ℕ) → i < 4 → HoldsGood (1 + i) (getD (world l ms .clients) i fresh)
       client i lt =
           let at : 1 + i - 1 ≡ i = omega arith in
           let c = clientAt (world l ms) (1 + i) in
-          subst (λ j. Told (1 + i) (getD (world l ms .clients) j fresh)) at
+          subst (λ j. HoldsGood (1 + i) (getD (world l ms .clients) j fresh)) at
           (stage-good (come l good-layout first ms .now) c (c .stage) (come l good-layout first ms .good .stages (1 + i) (omega arith) (omega arith)))
 
   -- what is lent is what a step left of the run's yard

@@ -28,7 +28,7 @@ use Rattle.client.specs.declared.Reply.{Reply}
 use Rattle.client.specs.declared.Reply.the-variants.{Fine, Refused}
 use Rattle.client.specs.declared.Response.{Response}
 use Rattle.rule.specs.World.{World, shapeUnder, unitAt, isUnit}
-use Rattle.rule.specs.Serve.{ServedWorld, saying, bare, kindOf, bytesOf, shown, edged, withUnit, withSequencer, withHeld, asking, offeringTo, requestOf, unitSays, unitAfter, serve, unserved}
+use Rattle.rule.specs.Serve.{ServedWorld, saying, bare, kindOf, bytesOf, pageShown, edged, withUnit, withSequencer, withHeld, asking, offeringTo, requestOf, unitSays, unitAfter, serve, unserved}
 use Rattle.history.specs.Words.{UnitNo, Pos, Epoch}
 use Rattle.history.specs.Maps.{Map}
 use Rattle.history.specs.History.{Note, Stretch, Covers, History, _⊑_, Noted, Laid, Mark, MarkedBy, held}
@@ -62,7 +62,7 @@ use Rattle.vouch.proofs.GoodMap.{epoch-of}
 use Rattle.rule.proofs.Lists.{set-all, unit-range, unit-runs}
 use Rattle.vouch.proofs.Meaning.{AskOk, Means}
 use Rattle.vouch.proofs.Meaning.AskOk.{fetch-ok, token-ok, write-ok, look-ok, trim-ok, prune-ok, seal-ok, offer-ok, start-ok}
-use Rattle.vouch.proofs.Meaning.Means.{means-held, means-token, means-wrote, means-written, means-no-write, means-shown, means-trimmed, means-unwritten, means-no-read, means-cut, means-no-cut, means-pruned, means-no-prune, means-edge, means-no-seal, means-installed, means-no-install, means-start}
+use Rattle.vouch.proofs.Meaning.Means.{means-held, means-token, means-wrote, means-written, means-no-write, means-shown, means-trimmed, means-unwritten, means-no-read, means-cut, means-no-cut, means-pruned, means-no-prune, means-edges, means-no-seal, means-installed, means-no-install, means-start}
 
 -- holder, sequencer and units are what the history made of them, each unit of the held layout's shape; stopped units too
 pub record Machines (h : History) (w : World) : Type 0 where
@@ -146,11 +146,11 @@ module _ {h : History} {w : World} (m : Machines h w) {u : UnitNo} (low : 1 ≤ 
 
   was-sealed : (e : EpochValue) (r : Reply) (M : State) → SealDone (shapeUnder (w .held)) h u (e .0) M r → ServedOk h w (Unit u (Seal e)) g k (record { response = bare r; world = withUnit w u M })
   unfolding held
-  was-sealed e r M (did-seal may is edge few) = record {
+  was-sealed e r M (did-seal may is edge) = record {
     now = h ▹ seal u (e .0);
     part = later here;
     machines = with-unit M m (run-step (m .run) may) refl low high is (λ v ne old. seal-others old ne);
-    means = means-edge sealed-at-now edge;
+    means = means-edges sealed-at-now edge;
     clients-same = refl;
     quiet = seal-quiet;
   }
@@ -236,7 +236,7 @@ serve-ok {h} {w} {g = g} {k} m to (write-ok {u = u} {e} {p} ok) =
 serve-ok {h} {w} {g = g} {k} m to (look-ok {u = u} {e} {p} ok) =
     let range = unit-range u (unit-runs (isUnit u) (not (getD (w .stopped) (u - 1) true)) to) in
     let has = laid-good (m .run) (ok .laid) .set-within (p .0) u (ok .serves) in
-    let r = shown (shapeUnder (w .held)) (unitAt w u) e p in
+    let r = pageShown (shapeUnder (w .held)) (unitAt w u) e p in
     subst (λ (M : State). ServedOk h w (Unit u (Read e p)) g k (record { response = r; world = withUnit w u M })) (sym (after-read (shapeUnder (w .held)) (unitAt w u) e p))
     (looked m (range .0) (range .1) g k (ok .by) e p (ok .epoch-is) r (read-does (sized (w .held .shape) .page) (m .units u (range .0) (range .1)) (ok .laid) has (ok .epoch-is) p))
 serve-ok {h} {w} {g = g} {k} m to (trim-ok {u = u} {e} {p} ok) =

@@ -3,6 +3,7 @@
 use mathlib.Core.Path.{_≡_}
 use mathlib.Core.Bool.{true}
 use Prim.Native.Nat.{ℕ, _≤_, _<_}
+use Rattle.num.specs.declared.Edges.{Edges}
 use Rattle.num.specs.Limits.{limit, lastEpoch}
 use Rattle.num.specs.declared.Epoch.{Epoch as EpochValue}
 use Rattle.num.specs.declared.Position.{Position}
@@ -14,7 +15,7 @@ use Rattle.client.specs.declared.Ask.{Ask}
 use Rattle.client.specs.declared.UnitAsk.the-variants.{Write, Read, Trim, Prune, Seal}
 use Rattle.client.specs.declared.Ask.the-variants.{Fetch, Token, Offer, Start}
 use Rattle.client.specs.declared.Ask.the-variants as ask
-use Rattle.client.specs.declared.Reply.the-variants.{Held, Fine, Shown, Edge, Refused}
+use Rattle.client.specs.declared.Reply.the-variants.{Held, Fine, Shown, Edged, Refused}
 use Rattle.client.specs.declared.Response.{Response}
 use Rattle.client.specs.declared.Work.{Work}
 use Rattle.client.specs.declared.Work.the-variants as work
@@ -102,7 +103,7 @@ pub data Means (h : History) : Ask → PageValue → Layout → Response → Typ
   means-pruned : {u : UnitNo} {e : EpochValue} {q : Position} {g : PageValue} {k : Layout} →
       ((p : Pos) → p < q .0 → MarkedBy h u p gone (e .0)) → Means h (ask.Unit u (Prune e q)) g k (bare Fine)
   means-no-prune : {u : UnitNo} {e : EpochValue} {q : Position} {g : PageValue} {k : Layout} {n : ℕ} → Means h (ask.Unit u (Prune e q)) g k (bare (Refused n))
-  means-edge : {u : UnitNo} {e : EpochValue} {x : Position} {g : PageValue} {k : Layout} → SealedAt h u (e .0) → EdgeAt h u (e .0) (x .0) → Means h (ask.Unit u (Seal e)) g k (bare (Edge x))
+  means-edges : {u : UnitNo} {e : EpochValue} {x : Edges} {g : PageValue} {k : Layout} → SealedAt h u (e .0) → EdgeAt h u (e .0) (x .edge .0) → Means h (ask.Unit u (Seal e)) g k (bare (Edged x))
   means-no-seal : {u : UnitNo} {e : EpochValue} {g : PageValue} {k : Layout} {n : ℕ} → Means h (ask.Unit u (Seal e)) g k (bare (Refused n))
   means-installed : {g : PageValue} {k : Layout} → k .epoch .0 ≤ held h .epoch → Means h Offer g k (bare Fine)
   means-no-install : {g : PageValue} {k : Layout} {n : ℕ} → Means h Offer g k (bare (Refused n))
@@ -204,7 +205,7 @@ PhaseOk h w l ch plan p x (Filling u) = FillingOk h w l (p .0) (carried x) u
 PhaseOk h w l ch plan p x (Looking u) = LookingOk h w l (p .0) u
 PhaseOk h w l ch plan p x (Trimming u) = TrimmingOk h w l (p .0) u
 PhaseOk h w l ch plan p x (Pruning u) = PruningOk h w l (p .0) u
-PhaseOk h w l ch plan p x (Sealing u e) = SealingOk h w l ch plan u (e .0)
+PhaseOk h w l ch plan p x (Sealing u e) = SealingOk h w l ch plan u (e .edge .0)
 PhaseOk h w l ch plan p x (Offering e) = OfferingOk h w l plan
 PhaseOk h w l ch plan p x Starting = StartingOk h w l plan
 
@@ -223,7 +224,7 @@ pub data Waits (l : Layout) (p : Position) (x : PageValue) (plan : Layout) : Sta
   waits-look : {u : ℕ} {g : PageValue} {k : Layout} → Waits l p x plan (Working (Looking u)) (ask.Unit u (Read (l .epoch) p)) g k
   waits-trim : {u : ℕ} {g : PageValue} {k : Layout} → Waits l p x plan (Working (Trimming u)) (ask.Unit u (Trim (l .epoch) p)) g k
   waits-prune : {u : ℕ} {g : PageValue} {k : Layout} → Waits l p x plan (Working (Pruning u)) (ask.Unit u (Prune (l .epoch) p)) g k
-  waits-seal : {u : ℕ} {y : Position} {g : PageValue} {k : Layout} → Waits l p x plan (Working (Sealing u y)) (ask.Unit u (Seal (l .epoch))) g k
+  waits-seal : {u : ℕ} {y : Edges} {g : PageValue} {k : Layout} → Waits l p x plan (Working (Sealing u y)) (ask.Unit u (Seal (l .epoch))) g k
   waits-offer : {y : Position} {g : PageValue} → Waits l p x plan (Working (Offering y)) Offer g plan
   waits-start : {y : Position} {g : PageValue} {k : Layout} → Waits l p x plan (Working Starting) (Start (plan .epoch) y) g k
 

@@ -10,8 +10,8 @@ use Rattle.layout.specs.declared.Layout.{Layout}
 use Rattle.layout.specs.declared.holder.Offered.{Offered}
 use Rattle.layout.specs.Value.{layOf, goodValue}
 use Rattle.layout.specs.Holder.{offerAnswer, offeredTo, fetchedFrom}
-use Rattle.layout.proofs.Values.{value-of-good}
-use Rattle.layout.proofs.Holding.{installed as offered-installed, stays, shape-stays, offer-fine, fetched-good}
+use Rattle.layout.proofs.ValueOf.{value-of-good}
+use Rattle.layout.proofs.OfferedTo.{installed as offered-installed, stays, shape-stays, offer-fine, fetched-good}
 use Rattle.client.specs.declared.Reply.{Reply}
 use Rattle.client.specs.declared.Reply.the-variants.{Held, Fine, Refused}
 use Rattle.client.specs.Message.{noPage}

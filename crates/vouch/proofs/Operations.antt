@@ -26,7 +26,7 @@ use Rattle.rule.proofs.Lists.{client-range}
 use Rattle.vouch.specs.Runs.{Move, Moves, _≼_, result, world, worldBy}
 use Rattle.vouch.specs.Runs.Moves.{none, _▸_}
 use Rattle.vouch.specs.Runs._≼_.{all-of, part-of}
-use Rattle.vouch.specs.Pages.{pageOf}
+use Rattle.vouch.specs.Pages.{jobPage}
 use Rattle.vouch.specs.Operations.{Begins, UnderWay, Ends}
 use Rattle.vouch.specs.Operations.UnderWay.{begun, still}
 use Rattle.vouch.specs.Operations.Ends.{later, at-once}
@@ -42,7 +42,7 @@ use Rattle.vouch.proofs.Went.Went.{went-on, went-begun, went-over, went
 pub record Agrees (x : Client) (j : Job) : Type 0 where
   pub has-one : busy (x .stage) ≡ true
   pub work-is : x .work ≡ j .work
-  pub page-is : j .work ≡ Append → x .page ≡ pageOf j
+  pub page-is : j .work ≡ Append → x .page ≡ jobPage j
 
 begun-agrees : (x y : Client) (j : Job) → y ≡ numbered (withJob x j) (next x) → Agrees y j
 begun-agrees x y j is = record {

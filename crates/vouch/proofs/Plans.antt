@@ -7,17 +7,18 @@ use Prim.Native.Nat.{ℕ, suc, _≤_, _<_}
 use native.Mathlib.Omega.{arith}
 use lib.Dec.{ltb}
 use lib.ListN.{length}
+use Rattle.num.specs.declared.Edges.{Edges}
 use Rattle.layout.specs.declared.Layout.{Layout}
 use Rattle.layout.specs.declared.Wish.{Wish}
 use Rattle.layout.specs.declared.plan.Started.{Started}
 use Rattle.layout.specs.Lay.{Lay, unitsOf}
 use Rattle.layout.specs.Value.{layOf, valueOf}
 use Rattle.layout.specs.Plan.{planned, lastStart, newStart, startAnswer, newOf, plannedFor, startedAt}
-use Rattle.layout.proofs.Goodness.{Good, good-says}
-use Rattle.layout.proofs.Values.{value-of-good}
-use Rattle.layout.proofs.Planning.{Reorganises, reorganise-fine}
-use Rattle.layout.proofs.Plans.{plan-back, plan-last}
-use Rattle.layout.proofs.Settling.{startedPlan, plan-started}
+use Rattle.layout.proofs.GoodLay.{Good, good-says}
+use Rattle.layout.proofs.ValueOf.{value-of-good}
+use Rattle.layout.proofs.ReorganiseAnswer.{Reorganises, reorganise-fine}
+use Rattle.layout.proofs.Planned.{plan-back, plan-last}
+use Rattle.layout.proofs.StartedPlan.{startedPlan, plan-started}
 use Rattle.history.specs.Words.{UnitNo, Pos, Epoch, _∈_}
 use Rattle.history.specs.Maps.{Has}
 use Rattle.history.specs.History.{History, Laid}
@@ -52,30 +53,33 @@ module _ (k : Layout) (drops : List ℕ) (w : Wish) (planned-fine : plannedFor k
   pub plan-lay : layOf (plannedFor k drops w .layout) ≡ planned (layOf k) drops (newOf w) 0
   plan-lay = ap layOf plan-is ∙ plan-back (layOf k) drops (newOf w) 0 k-good (fine .plan)
 
-  module _ (g : ℕ) where
-    started-is : startedAt (plannedFor k drops w .layout) g ≡ startedPlan (layOf k) drops (newOf w) g
-    started-is = ap (λ (l : Layout). startedAt l g) plan-is ∙ plan-started (layOf k) drops (newOf w) g k-good (fine .plan)
+  module _ (e : Edges) where
+    abbrev g : ℕ
+    g = e .edge .0
 
-    module _ (started-fine : startedAt (plannedFor k drops w .layout) g .answer ≡ 0) where
+    started-is : startedAt (plannedFor k drops w .layout) e ≡ startedPlan (layOf k) drops (newOf w) e
+    started-is = ap (λ (l : Layout). startedAt l e) plan-is ∙ plan-started (layOf k) drops (newOf w) e k-good (fine .plan)
+
+    module _ (started-fine : startedAt (plannedFor k drops w .layout) e .answer ≡ 0) where
       starts : startAnswer (layOf k) (newOf w) g ≡ 0
       starts = sym (ap (λ (s : Started). s .answer) started-is) ∙ started-fine
 
-      pub started-lay : layOf (startedAt (plannedFor k drops w .layout) g .layout) ≡ planned (layOf k) drops (newOf w) (newStart (layOf k) g)
+      pub started-lay : layOf (startedAt (plannedFor k drops w .layout) e .layout) ≡ planned (layOf k) drops (newOf w) (newStart (layOf k) g)
       started-lay =
           ap (λ (s : Started). layOf (s .layout)) started-is ∙ rw starts (plan-back (layOf k) drops (newOf w) (newStart (layOf k) g) k-good (fine .plan))
 
       -- its sets, and so its units, are those of the plan
-      pub started-sets : layOf (startedAt (plannedFor k drops w .layout) g .layout) .sets ≡ layOf (plannedFor k drops w .layout) .sets
+      pub started-sets : layOf (startedAt (plannedFor k drops w .layout) e .layout) .sets ≡ layOf (plannedFor k drops w .layout) .sets
       unfolding planned
       started-sets = ap (λ (l : Lay). l .sets) started-lay ∙ sym (ap (λ (l : Lay). l .sets) plan-lay)
 
-      pub started-epoch : startedAt (plannedFor k drops w .layout) g .layout .epoch .0 ≡ suc (k .epoch .0)
+      pub started-epoch : startedAt (plannedFor k drops w .layout) e .layout .epoch .0 ≡ suc (k .epoch .0)
       unfolding planned layOf
-      started-epoch = let e = ap (λ (l : Lay). l .epoch) started-lay in omega arith
+      started-epoch = let same = ap (λ (l : Lay). l .epoch) started-lay in omega arith
 
       -- where every unit of the plan is sealed and has told its edge, what is offered is as it should be
       pub planned-offer : {h : History} → Laid h (mapOf (layOf k)) → ((u : UnitNo) → Has (mapOf (layOf (plannedFor k drops w .layout))) u → SealedAt h u (k .epoch .0)) →
-          ((u : UnitNo) → Has (mapOf (layOf (plannedFor k drops w .layout))) u → EdgeAt h u (k .epoch .0) g) → OfferOk h (startedAt (plannedFor k drops w .layout) g .layout)
+          ((u : UnitNo) → Has (mapOf (layOf (plannedFor k drops w .layout))) u → EdgeAt h u (k .epoch .0) g) → OfferOk h (startedAt (plannedFor k drops w .layout) e .layout)
       unfolding layOf
       planned-offer {h} laid sealed-all edges = record {
         of = mapOf (layOf k);

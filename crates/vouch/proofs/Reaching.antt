@@ -35,7 +35,7 @@ use Rattle.rule.specs.declared.Body.the-variants.{Asks, Answers}
 use Rattle.rule.specs.declared.Step.{Step}
 use Rattle.rule.specs.declared.Step.the-variants.{Deliver, GiveUp}
 use Rattle.rule.specs.World.{World, shapeUnder, clientAt, unitAt, letterAt, blankLetter}
-use Rattle.rule.specs.Serve.{unitSays, serve, shown}
+use Rattle.rule.specs.Serve.{unitSays, serve, pageShown}
 use Rattle.rule.specs.Steps.{Done, refused, fine, keeping, tooMany, withLetters, answerTo, served, response, unbrought, brought, delivered, delivers, step}
 use Rattle.rule.proofs.Lists.{client-range}
 use Rattle.vouch.specs.Runs.{Move, Moves, _≼_, result, world, worldBy}
@@ -51,9 +51,9 @@ use Rattle.vouch.proofs.Reread.{shownBy, ends-answer}
 use Rattle.vouch.proofs.Together.{within-trans}
 use Rattle.vouch.proofs.Operations.{same-way, ends-under, ends-by, ends-who}
 use Rattle.vouch.proofs.EndingSteps.{Took, How, how}
-use Rattle.vouch.proofs.ReadEnding.{Told, Heard, heard}
+use Rattle.vouch.proofs.ReadEnding.{ReadTold, Heard, heard}
 use Rattle.vouch.proofs.EndingSteps.How.{took, gave-up}
-use Rattle.vouch.proofs.ReadEnding.Told.{told-answer, told-spent}
+use Rattle.vouch.proofs.ReadEnding.ReadTold.{told-answer, told-spent}
 
 -- ---- the answer of a machine, where it is kept, is the last letter
 
@@ -147,10 +147,10 @@ pub data ReadHow (l : Layout) (ms : Moves) (m : Move) (c : ℕ) (j : Job) (p : �
   how-given-up : m .does ≡ GiveUp c → o .number ≡ 20 → ReadHow l ms m c j p o
 
 -- what the client ends with, where a unit answers its read
-answer-outcome : (c : Client) (sh : Shape) (M : State) (e : EpochValue) (q : Position) (x : Response) (o : Outcome) → x ≡ shown sh M e q → o ≡ onRead c (x .reply) (x .page) .outcome →
+answer-outcome : (c : Client) (sh : Shape) (M : State) (e : EpochValue) (q : Position) (x : Response) (o : Outcome) → x ≡ pageShown sh M e q → o ≡ onRead c (x .reply) (x .page) .outcome →
     onRead c (x .reply) (x .page) .act ≡ Ends →
     o ≡ outcomeOf c (says sh M (request.read e q)) (shownBy (says sh M (request.read e q)) (report sh M (request.read e q) .page))
-unfolding shown
+unfolding pageShown
 answer-outcome c sh M e q x o is out done =
     let n = says sh M (request.read e q) in
     out ∙ (ap (λ (r : Response). onRead c (r .reply) (r .page) .outcome) is
@@ -174,7 +174,7 @@ module _ (l : Layout) (good : goodValue l ≡ true) (first : l .epoch .0 ≡ 1) 
       o = result w m .outcome
 
       told : (t : Took w (m .does) (m .job) (read .client)) (h : Heard l ms (come l good first ms .now) w (read .client) (m .does) (m .job) (letterAt w (t .place)) (t .reply)) →
-          Told c (h .answered-it .ask) (response (t .reply) (letterAt w (t .place))) (h .turn) → ReadHow l ms m (read .client) (read .job) p o
+          ReadTold c (h .answered-it .ask) (response (t .reply) (letterAt w (t .place))) (h .turn) → ReadHow l ms m (read .client) (read .job) p o
       told t h (told-spent held number) = how-spent (t .is-delivery) (t .body-is ∙ ap Answers held) (ap (λ (x : Outcome). x .number) (h .outcome-is) ∙ number)
       told t h (told-answer u ask-is work-is below turn-is) =
           let from = h .answered-it .origin in

@@ -17,7 +17,7 @@ use Rattle.client.specs.declared.UnitAsk.the-variants as unit-ask
 use Rattle.client.specs.declared.Page.{Page}
 use Rattle.client.specs.declared.Query.{Query}
 use Rattle.client.specs.declared.Reply.{Reply}
-use Rattle.client.specs.declared.Reply.the-variants.{Held, Given, Fine, Shown, Edge, Refused}
+use Rattle.client.specs.declared.Reply.the-variants.{Held, Given, Fine, Shown, Edged, Refused}
 use Rattle.client.specs.declared.Response.{Response}
 use Rattle.client.specs.declared.Stamp.{Stamp}
 use Rattle.client.specs.declared.Work.{Work}
@@ -59,10 +59,10 @@ use Rattle.vouch.proofs.EndingSteps.{Took}
 -- ---- what the answer did
 
 -- the turn t of a client that reads, which took the answer x to the request a
-pub data Told (c : Client) (a : Ask) (x : Response) (t : Turn) : Type 0 where
+pub data ReadTold (c : Client) (a : Ask) (x : Response) (t : Turn) : Type 0 where
   told-answer : (u : ℕ) → a ≡ ask.Unit u (unit-ask.Read (c .layout .epoch) (c .position)) → c .work ≡ work.Read (c .position) → c .position .0 < limit →
-      t ≡ onRead c (x .reply) (x .page) → Told c a x t
-  told-spent : x .reply ≡ Held → t .outcome .number ≡ 19 → Told c a x t
+      t ≡ onRead c (x .reply) (x .page) → ReadTold c a x t
+  told-spent : x .reply ≡ Held → t .outcome .number ≡ 19 → ReadTold c a x t
 
 sends-spent : (c : Client) (q : Query) → sends c q .act ≡ Ends → sends c q .outcome .number ≡ 19
 unfolding sends
@@ -86,7 +86,7 @@ module _ (c : Client) (p : Position) (is : c .work ≡ work.Read p) where
   clash other ne = absurd (ne (sym other ∙ is))
 
   pub told : {h : History} {a : Ask} {g : Page} {k : Layout} {x : Response} (st : Stage) → StageOk h c st → Waits (c .layout) (c .position) (c .page) (c .plan) st a g k →
-      Means h a g k x → answered st c x .act ≡ Ends → Told c a x (answered st c x)
+      Means h a g k x → answered st c x .act ≡ Ends → ReadTold c a x (answered st c x)
   told Fetching ok waits-fetch (means-held {l = l} laid good) done = told-spent refl (fetch-spent l good done)
   told {x = x} (Working (Reading u)) ok waits-read means done = told-answer u refl (ok .is-read) (ok .low) (works-good c (Reading u) (x .reply) (x .page) (ok .fetched .is-good))
   told (Working (Drawing n)) ok waits-token means done = clash (ok .is-append) (λ e. let z : _≡_ {A = ℕ} 0 1 = cc in omega arith)
@@ -136,7 +136,7 @@ returned-told c x r = go (x .reply) refl
     go (Given p) is act returns = idle-turn act
     go Fine is act returns = idle-turn act
     go Shown is act returns = page-so is (isShowable (x .page)) act returns
-    go (Edge p) is act returns = idle-turn act
+    go (Edged p) is act returns = idle-turn act
     go (Refused n) is act returns = refused-so n is (noRefusal n) refl act returns
 
 -- ---- and the answer is to the request that the client waits for
@@ -146,7 +146,7 @@ pub record Heard (l : Layout) (ms : Moves) (h : History) (w : World) (c : ℕ) (
   pub current : Current (clientAt w c) (letter .stamp)
   pub turn : Turn
   pub act-is : turn .act ≡ Ends
-  pub told-it : Told (clientAt w c) (answered-it .ask) (response reply letter) turn
+  pub told-it : ReadTold (clientAt w c) (answered-it .ask) (response reply letter) turn
   pub outcome-is : step w s j .outcome ≡ turn .outcome
 
 module _ {l : Layout} {ms : Moves} {h : History} {w : World} (good : Good l ms h w) (s : Step) (j : Job) (c : ℕ) (is-client : isClient c ≡ true) (t : Took w s j c) where

@@ -10,7 +10,7 @@ use lib.Dec.{eqb, ltb}
 use lib.ListN.{length}
 use Rattle.num.proofs.Tests.{false-true}
 use Rattle.layout.specs.Value.{blank}
-use Rattle.layout.proofs.Padding.{padded-front}
+use Rattle.layout.proofs.Padded.{padded-front}
 use Rattle.unit.specs.declared.shape.Shape.{Shape}
 use Rattle.num.specs.declared.Epoch.{Epoch as EpochValue}
 use Rattle.num.specs.declared.Position.{Position}
@@ -28,20 +28,20 @@ use Rattle.client.specs.declared.Reply.the-variants.{Shown, Refused}
 use Rattle.client.specs.declared.Response.{Response}
 use Rattle.client.specs.Message.{pageLimit}
 use Rattle.rule.specs.Serve.{bare, kindOf, bytesOf}
-use Rattle.rule.specs.Serve.{pageOf as slotPage, shown as reading}
+use Rattle.rule.specs.Serve.{pageOf as slotPage, pageShown as reading}
 use Rattle.history.specs.Words.{UnitNo}
 use Rattle.history.specs.Words.Answer.{shows, trimmed, unwritten}
 use Rattle.history.specs.Maps.{Map, Has}
 use Rattle.history.specs.History.{History, Laid}
 use Rattle.history.specs.Safety.{Answers}
-use Rattle.vouch.proofs.Carried.{pageOf, carried}
+use Rattle.vouch.proofs.Carried.{pageWith, carried}
 use Rattle.vouch.proofs.UnitIs.{answerOf, UnitIs, ReadDone}
 use Rattle.vouch.proofs.UnitIs.ReadDone.{read-page, read-trimmed, read-unwritten, no-read}
 use Rattle.vouch.proofs.Writing.{empty-answers, page-answers, takes-of}
 use Rattle.vouch.proofs.Trimming.{gone-answers}
 
 -- a letter bears the very page of a slot
-carried-slot : (s : Content) → length (s .payload) ≤ pageLimit → carried (slotPage s) ≡ pageOf (s .kind) (s .payload)
+carried-slot : (s : Content) → length (s .payload) ≤ pageLimit → carried (slotPage s) ≡ pageWith (s .kind) (s .payload)
 unfolding kindOf bytesOf slotPage
 carried-slot s few = rw (le-leb (length (s .payload)) pageLimit few, padded-front pageLimit 0 (s .payload) few)
 

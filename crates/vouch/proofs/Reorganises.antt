@@ -4,11 +4,13 @@ use mathlib.Core.Path.{_≡_, refl, sym, subst, _∙_}
 use Prim.Native.Nat.{ℕ, _≤_, _<_}
 use native.Mathlib.Omega.{arith}
 use native.Mathlib.Decide.{decLt}
+use Rattle.num.specs.declared.Edges.{Edges}
+use Rattle.num.specs.Edges.{noEdges, largest}
 use Rattle.num.specs.declared.Position.{Position}
 use Rattle.layout.specs.declared.Layout.{Layout}
 use Rattle.layout.specs.Value.{layOf}
 use Rattle.client.specs.declared.Reply.{Reply}
-use Rattle.client.specs.declared.Reply.the-variants.{Held, Given, Fine, Shown, Edge, Refused}
+use Rattle.client.specs.declared.Reply.the-variants.{Held, Given, Fine, Shown, Edged, Refused}
 use Rattle.client.specs.declared.Work.the-variants as work
 use Rattle.client.specs.declared.Phase.the-variants.{Sealing, Offering, Starting}
 use Rattle.client.specs.declared.Client.{Client}
@@ -18,8 +20,8 @@ use Rattle.client.specs.declared.Ask.the-variants as ask
 use Rattle.client.specs.Client.{inPhase}
 use Rattle.client.specs.Turn.{ends}
 use Rattle.client.specs.Way.{unitAbove}
-use Rattle.client.proofs.Clients.{larger-left, larger-right}
-use Rattle.client.proofs.Turns.{plan-cases, seal-cases, edge-cases, start-cases, unstarted-cases}
+use Rattle.num.proofs.Within.{edge-left, edge-right}
+use Rattle.client.proofs.Turns.{plan-cases, seal-cases, edges-cases, start-cases, unstarted-cases}
 use Rattle.history.specs.Words.{UnitNo}
 use Rattle.history.specs.Maps.{Has}
 use Rattle.history.specs.History.{History}
@@ -31,7 +33,7 @@ use Rattle.layout.specs.Plan.{plannedFor, startedAt}
 use Rattle.client.specs.Message.{offering}
 use Rattle.client.specs.Client.{planning}
 use Rattle.client.specs.Way.{dropsOf, planFor, startFor}
-use Rattle.client.specs.Reorganise.{seals, offers, allSealed, sealsOn, reorganises, larger, onSealed, onOffered, notStarted, onStarted}
+use Rattle.client.specs.Reorganise.{seals, offers, allSealed, sealsOn, reorganises, onSealed, onOffered, notStarted, onStarted}
 use Rattle.history.specs.History.{held}
 use Rattle.history.specs.Edges.{SealedAt, EdgeAt}
 use Rattle.history.proofs.Epochs.{laid-by}
@@ -57,23 +59,23 @@ module _ {h : History} (run : Run h) (b c : Client) (life : c .life ≡ b .life)
   quiet : (n : ℕ) → TurnOk h b (ends c n)
   quiet n = ends-ok c n life used (other-quiet (is-reorganise (sym works ∙ plans .is)))
 
-  seals-ok : (u : ℕ) (x : Position) → SealingOk h (c .work) (c .layout) (c .change) (c .plan) u (x .0) → TurnOk h b (seals c u x)
+  seals-ok : (u : ℕ) (x : Edges) → SealingOk h (c .work) (c .layout) (c .change) (c .plan) u (x .edge .0) → TurnOk h b (seals c u x)
   unfolding layOf
   seals-ok u x ok =
       sends-ok (inPhase c (Sealing u x)) (plain (ask.Unit u (unit-ask.Seal (c .layout .epoch)))) life used refl ok waits-seal
       (seal-ok {e = c .layout .epoch} (laid-by run (ok .fetched .laid)) (epoch-small (layOf (c .layout)) (is-good (ok .fetched))))
 
-  -- every unit of the plan has answered, and x is the largest edge
-  all-sealed : (x : Position) → ((v : UnitNo) → Has (mapOf (layOf (c .plan))) v → SealedAt h v (c .layout .epoch .0)) →
-      ((v : UnitNo) → Has (mapOf (layOf (c .plan))) v → EdgeAt h v (c .layout .epoch .0) (x .0)) → TurnOk h b (allSealed c x)
+  -- every unit of the plan has answered, and x are the largest edges
+  all-sealed : (x : Edges) → ((v : UnitNo) → Has (mapOf (layOf (c .plan))) v → SealedAt h v (c .layout .epoch .0)) →
+      ((v : UnitNo) → Has (mapOf (layOf (c .plan))) v → EdgeAt h v (c .layout .epoch .0) (x .edge .0)) → TurnOk h b (allSealed c x)
   all-sealed x sealed-all edges = start-cases (TurnOk h b) c x offers-it (λ failed. quiet (startFor c x .answer))
     where
-      offer : startedAt (c .plan) (x .0) .answer ≡ 0 → OfferOk h (startedAt (c .plan) (x .0) .layout)
-      offer fine = subst (λ (l : Layout). OfferOk h (startedAt l (x .0) .layout)) (sym (plans .plan-is))
-          (planned-offer (c .layout) (dropsOf (c .change)) (c .change .wish) (plans .plan-fine) (x .0)
-          (subst (λ (l : Layout). startedAt l (x .0) .answer ≡ 0) (plans .plan-is) fine) (plans .fetched .laid)
+      offer : startedAt (c .plan) x .answer ≡ 0 → OfferOk h (startedAt (c .plan) x .layout)
+      offer fine = subst (λ (l : Layout). OfferOk h (startedAt l x .layout)) (sym (plans .plan-is))
+          (planned-offer (c .layout) (dropsOf (c .change)) (c .change .wish) (plans .plan-fine) x
+          (subst (λ (l : Layout). startedAt l x .answer ≡ 0) (plans .plan-is) fine) (plans .fetched .laid)
           (subst (λ (l : Layout). (v : UnitNo) → Has (mapOf (layOf l)) v → SealedAt h v (c .layout .epoch .0)) (plans .plan-is) sealed-all)
-          (subst (λ (l : Layout). (v : UnitNo) → Has (mapOf (layOf l)) v → EdgeAt h v (c .layout .epoch .0) (x .0)) (plans .plan-is) edges))
+          (subst (λ (l : Layout). (v : UnitNo) → Has (mapOf (layOf l)) v → EdgeAt h v (c .layout .epoch .0) (x .edge .0)) (plans .plan-is) edges))
 
       offers-it : startFor c x .answer ≡ 0 → TurnOk h b (offers (planning c (startFor c x .layout)) (startFor c x .first))
       offers-it fine =
@@ -82,8 +84,8 @@ module _ {h : History} (run : Run h) (b c : Client) (life : c .life ≡ b .life)
           (record { is-reorganise = plans .is; fetched = plans .fetched; offer = ok }) waits-offer (offer-ok ok)
 
   -- all units of the plan up to u have answered
-  seals-on : (u : ℕ) (x : Position) → ((v : UnitNo) → Has (mapOf (layOf (c .plan))) v → v ≤ u → SealedAt h v (c .layout .epoch .0)) →
-      ((v : UnitNo) → Has (mapOf (layOf (c .plan))) v → v ≤ u → EdgeAt h v (c .layout .epoch .0) (x .0)) → TurnOk h b (sealsOn c u x)
+  seals-on : (u : ℕ) (x : Edges) → ((v : UnitNo) → Has (mapOf (layOf (c .plan))) v → v ≤ u → SealedAt h v (c .layout .epoch .0)) →
+      ((v : UnitNo) → Has (mapOf (layOf (c .plan))) v → v ≤ u → EdgeAt h v (c .layout .epoch .0) (x .edge .0)) → TurnOk h b (sealsOn c u x)
   seals-on u x sealed-upto edges-upto =
       seal-cases (TurnOk h b) c u x
       (λ none. all-sealed x (λ v has. sealed-upto v has (next-last (layOf (c .plan)) u none has)) (λ v has. edges-upto v has (next-last (layOf (c .plan)) u none has)))
@@ -101,18 +103,18 @@ pub reorganises-ok : {h : History} (run : Run h) (b c : Client) → c .life ≡ 
     c .work ≡ work.Reorganise → Fetched h (c .layout) → TurnOk h b (reorganises c)
 reorganises-ok {h} run b c life used works is fetched =
     plan-cases (TurnOk h b) c
-    (λ fine. seals-on run b (planning c (planFor c .layout)) life used works (record { is = is; fetched = fetched; plan-fine = fine; plan-is = refl }) 0 (record { 0 = 0 })
+    (λ fine. seals-on run b (planning c (planFor c .layout)) life used works (record { is = is; fetched = fetched; plan-fine = fine; plan-is = refl }) 0 noEdges
     (λ v has le. absurd (omega (arith, unit-within (layOf (planFor c .layout)) has .0)))
     (λ v has le. absurd (omega (arith, unit-within (layOf (planFor c .layout)) has .0))))
     (λ failed. ends-ok c (planFor c .answer) life used (other-quiet (is-reorganise (sym works ∙ is))))
 
 module _ {h : History} (run : Run h) (c : Client) where
-  module _ (u : ℕ) (x : Position) (ok : SealingOk h (c .work) (c .layout) (c .change) (c .plan) u (x .0)) where
-    pub seal-fine : (y : Position) → SealedAt h u (c .layout .epoch .0) → EdgeAt h u (c .layout .epoch .0) (y .0) → TurnOk h c (onSealed c u x (Edge y))
+  module _ (u : ℕ) (x : Edges) (ok : SealingOk h (c .work) (c .layout) (c .change) (c .plan) u (x .edge .0)) where
+    pub seal-fine : (y : Edges) → SealedAt h u (c .layout .epoch .0) → EdgeAt h u (c .layout .epoch .0) (y .edge .0) → TurnOk h c (onSealed c u x (Edged y))
     seal-fine y s e =
-        edge-cases (TurnOk h c) c u x y
-        (λ few. seals-on run c c refl refl refl plans u (larger x y) (upto (λ v. SealedAt h v (c .layout .epoch .0)) (ok .sealed-behind) s)
-        (upto (λ v. EdgeAt h v (c .layout .epoch .0) (larger x y .0)) (λ v has lt. edge-wider (larger-left x y) (ok .edges-behind v has lt)) (edge-wider (larger-right x y) e)))
+        edges-cases (TurnOk h c) c u x y
+        (λ few. seals-on run c c refl refl refl plans u (largest x y) (upto (λ v. SealedAt h v (c .layout .epoch .0)) (ok .sealed-behind) s)
+        (upto (λ v. EdgeAt h v (c .layout .epoch .0) (largest x y .edge .0)) (λ v has lt. edge-wider (edge-left x y) (ok .edges-behind v has lt)) (edge-wider (edge-right x y) e)))
         (λ past. rests-ok)
       where
         plans : Planning h c
@@ -153,5 +155,5 @@ module _ {h : History} (run : Run h) (c : Client) where
       go (Given q) = other 0
       go Fine = quietly 0
       go Shown = other 0
-      go (Edge q) = other 0
+      go (Edged q) = other 0
       go (Refused k) = other k

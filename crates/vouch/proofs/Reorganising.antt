@@ -1,6 +1,6 @@
 -- A reorganise with no other step between ends in done: fetch, a seal for each unit of the new layout, offer, start.
 -- Rests on Beginning and Forward.
-use mathlib.Core.Path.{_≡_, refl, ap, subst, _∙_}
+use mathlib.Core.Path.{_≡_, refl, sym, ap, subst, _∙_}
 use mathlib.Core.Bool.{true}
 use mathlib.Core.List.{List, [], _∷_}
 use Prim.Native.Nat.{ℕ, suc, _+_, _-_, _≤_, _<_}
@@ -9,33 +9,34 @@ use borrow.Author.Tests.{leb-true}
 use lib.Dec.{leb}
 use lib.ListN.{getD, set}
 use Rattle.num.specs.Limits.{limit, lastEpoch}
-use Rattle.num.specs.declared.Position.{Position}
-use Rattle.num.proofs.Tests.{and-both}
+use Rattle.num.specs.declared.Edges.{Edges}
+use Rattle.num.specs.Edges.{largest}
+use Rattle.num.proofs.Tests.{and-both, false-true}
+use Rattle.num.proofs.Within.{Within, says-within, largest-within}
 use Rattle.client.specs.declared.turn.Turn.{Turn}
 use Rattle.layout.specs.declared.Layout.{Layout}
 use Rattle.layout.specs.Lay.{Lay, _in?_, unitsOf}
 use Rattle.layout.specs.Value.{layOf, goodValue}
 use Rattle.layout.specs.Places.{above}
-use Rattle.layout.proofs.Sets.{above-next}
-use Rattle.unit.specs.State.{State, edge}
+use Rattle.layout.proofs.NextUnit.{above-next}
+use Rattle.unit.specs.State.{State, edges}
 use Rattle.unit.specs.Unit.{freshUnit, after as unit-after}
 use Rattle.unit.specs.Unit.Request.{seal}
-use Rattle.unit.proofs.Lookup.{edge-limit}
+use Rattle.unit.proofs.Lasting.{edges-within}
 use Rattle.sequencer.specs.declared.Sequencer.{Sequencer}
 use Rattle.client.specs.declared.UnitAsk.the-variants as unit-ask
 use Rattle.client.specs.declared.Ask.the-variants as ask
 use Rattle.client.specs.declared.Reply.{Reply}
-use Rattle.client.specs.declared.Reply.the-variants.{Edge}
+use Rattle.client.specs.declared.Reply.the-variants.{Edged}
 use Rattle.client.specs.declared.Client.{Client}
 use Rattle.client.specs.declared.Phase.the-variants.{Sealing}
 use Rattle.client.specs.Message.{noPage, plain}
 use Rattle.client.specs.Client.{inPhase, lastNumber}
 use Rattle.client.specs.Turn.{numbered, next, sends}
 use Rattle.client.specs.Way.{unitAbove}
-use Rattle.client.specs.Reorganise.{allSealed, seals, sealsOn, larger}
+use Rattle.client.specs.Reorganise.{allSealed, seals, sealsOn}
 use Rattle.client.specs.Take.{answered}
-use Rattle.client.proofs.Clients.{larger-within}
-use Rattle.client.proofs.Turns.{seal-cases, edge-cases, works-good}
+use Rattle.client.proofs.Turns.{seal-cases, edges-cases, works-good}
 use Rattle.rule.specs.World.{World, shapeUnder, isUnit, running}
 use Rattle.rule.specs.Serve.{bare, atUnit, unitSays, unitAfter, serve}
 use Rattle.vouch.specs.LastSentence.{exchanges, Conditions}
@@ -88,7 +89,7 @@ module _ (w : World) (c : ℕ) (sound : Sound w) (may : Conditions w c) where
   epoch-few : k .epoch .0 ≤ lastEpoch
   epoch-few = omega (arith, may .epoch-left)
 
-  module _ (us : List State) (y : Client) (v : ℕ) (e : Position) (on : UnitsOn w us) (way : OnWay y) (is : NextWorks v) (few : e .0 ≤ limit) where
+  module _ (us : List State) (y : Client) (v : ℕ) (e : Edges) (on : UnitsOn w us) (way : OnWay y) (is : NextWorks v) (few : Within limit e) where
     abbrev y₃ : Client
     y₃ = inPhase y (Sealing v e)
 
@@ -98,13 +99,13 @@ module _ (w : World) (c : ℕ) (sound : Sound w) (may : Conditions w c) where
     abbrev sealed-units : List State
     sealed-units = set us (v - 1) (unit-after (shapeUnder k) M (seal (k .epoch)))
 
-    abbrev told : Position
-    told = record { 0 = edge M }
+    abbrev told : Edges
+    told = edges M
 
     seals-so : seals y v e ≡ sends y₃ (plain (ask.Unit v (unit-ask.Seal (k .epoch))))
     seals-so = ap (λ (l : Layout). sends y₃ (plain (ask.Unit v (unit-ask.Seal (l .epoch))))) (way .layout-is)
 
-    seal-asked : Asked w c (w .letters) (may .is-client) (sound .four-clients) (may .few-letters) k k us sealed-units s s y₃ (plain (ask.Unit v (unit-ask.Seal (k .epoch)))) (bare (Edge told))
+    seal-asked : Asked w c (w .letters) (may .is-client) (sound .four-clients) (may .few-letters) k k us sealed-units s s y₃ (plain (ask.Unit v (unit-ask.Seal (k .epoch)))) (bare (Edged told))
     unfolding unitSays unitAfter serve
     seal-asked = record {
       there = not-so (running (w .stopped) v) (is .works);
@@ -115,16 +116,16 @@ module _ (w : World) (c : ℕ) (sound : Sound w) (may : Conditions w c) where
     abbrev x₃ : Client
     x₃ = numbered y₃ (next y₃)
 
-    told-few : told .0 ≤ limit
-    told-few = edge-limit (shapeUnder k) M (on .kept v (is .low) (is .high) .is-valid)
+    told-few : Within limit told
+    told-few = edges-within (shapeUnder k) M (on .kept v (is .low) (is .high) .is-valid)
 
-    seal-taken : answered (y₃ .stage) x₃ (bare (Edge told)) ≡ sealsOn x₃ v (larger e told)
+    seal-taken : answered (y₃ .stage) x₃ (bare (Edged told)) ≡ sealsOn x₃ v (largest e told)
     seal-taken =
-        works-good x₃ (Sealing v e) (Edge told) noPage (under y way)
-        ∙ edge-cases (λ (t : Turn). t ≡ sealsOn x₃ v (larger e told)) x₃ v e told (λ few. refl) (λ past. absurd (omega (arith, told-few)))
+        works-good x₃ (Sealing v e) (Edged told) noPage (under y way)
+        ∙ edges-cases (λ (t : Turn). t ≡ sealsOn x₃ v (largest e told)) x₃ v e told (λ few. refl) (λ past. absurd (false-true (sym past ∙ says-within told told-few)))
 
-    larger-few : larger e told .0 ≤ limit
-    larger-few = larger-within e told limit few told-few
+    largest-few : Within limit (largest e told)
+    largest-few = largest-within e told limit few told-few
 
     way-on : OnWay x₃
     way-on = record { layout-is = way .layout-is; plan-is = way .plan-is }
@@ -132,7 +133,7 @@ module _ (w : World) (c : ℕ) (sound : Sound w) (may : Conditions w c) where
     used-on : x₃ .used .0 ≡ y .used .0 + 1
     used-on = refl
 
-    seal-comes : {n : ℕ} → y .used .0 < lastNumber → Comes w c sound may sealed-units (sealsOn x₃ v (larger e told)) n → Comes w c sound may us (seals y v e) (suc n)
+    seal-comes : {n : ℕ} → y .used .0 < lastNumber → Comes w c sound may sealed-units (sealsOn x₃ v (largest e told)) n → Comes w c sound may us (seals y v e) (suc n)
     unfolding exchanges
     seal-comes {n} left rest = record {
       end = rest .end;
@@ -146,7 +147,7 @@ module _ (w : World) (c : ℕ) (sound : Sound w) (may : Conditions w c) where
 
   -- ---- all seals, and what follows
 
-  pub seals-come : {u : ℕ} {rest : List ℕ} → Walk (units w c sound may) u rest → (us : List State) (y : Client) (e : Position) → UnitsOn w us → OnWay y → e .0 ≤ limit →
+  pub seals-come : {u : ℕ} {rest : List ℕ} → Walk (units w c sound may) u rest → (us : List State) (y : Client) (e : Edges) → UnitsOn w us → OnWay y → Within limit e →
       y .used .0 + (requests rest + 2) ≤ lastNumber → Comes w c sound may us (sealsOn y u e) (requests rest)
   unfolding requests
   seals-come {u} (walk-end none) us y e on way few left =
@@ -158,5 +159,5 @@ module _ (w : World) (c : ℕ) (sound : Sound w) (may : Conditions w c) where
       comes-as w c sound may
       (seal-cases (λ (t : Turn). t ≡ seals y v e) y u e (λ none. absurd (omega (arith, at, none))) (λ some. ap (λ z. seals y z e) at))
       (seal-comes us y v e on way works few (omega (arith, left))
-      (seals-come rest (sealed-units us y v e on way works few) (x₃ us y v e on way works few) (larger e (told us y v e on way works few))
-      (seal-on w us v epoch-few on (works .low) (works .high)) (way-on us y v e on way works few) (larger-few us y v e on way works few) (omega (arith, left, used-on us y v e on way works few))))
+      (seals-come rest (sealed-units us y v e on way works few) (x₃ us y v e on way works few) (largest e (told us y v e on way works few))
+      (seal-on w us v epoch-few on (works .low) (works .high)) (way-on us y v e on way works few) (largest-few us y v e on way works few) (omega (arith, left, used-on us y v e on way works few))))

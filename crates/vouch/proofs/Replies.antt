@@ -30,7 +30,7 @@ use Rattle.client.specs.Client.{holding}
 use Rattle.client.specs.Take.{goesOn, onFetched, worked, answered}
 use Rattle.client.proofs.Turns.{held-cases, working-cases}
 use Rattle.vouch.proofs.Meaning.{Means, WorkOk, Fetched, Walking, StageOk, Waits}
-use Rattle.vouch.proofs.Meaning.Means.{means-held, means-token, means-wrote, means-written, means-no-write, means-shown, means-trimmed, means-unwritten, means-no-read, means-cut, means-no-cut, means-pruned, means-no-prune, means-edge, means-no-seal, means-installed, means-no-install, means-start}
+use Rattle.vouch.proofs.Meaning.Means.{means-held, means-token, means-wrote, means-written, means-no-write, means-shown, means-trimmed, means-unwritten, means-no-read, means-cut, means-no-cut, means-pruned, means-no-prune, means-edges, means-no-seal, means-installed, means-no-install, means-start}
 use Rattle.vouch.proofs.Meaning.Waits.{waits-fetch, waits-token, waits-write, waits-read, waits-fill, waits-look, waits-trim, waits-prune, waits-seal, waits-offer, waits-start}
 use Rattle.vouch.proofs.Turns.{TurnOk}
 use Rattle.vouch.proofs.Walking.{is-good, phase-good, walk-start}
@@ -95,7 +95,7 @@ worked-ok run c (Trimming u) ok waits-trim (means-cut mk) = trim-fine run c u ok
 worked-ok run c (Trimming u) ok waits-trim (means-no-cut {n = j}) = trim-refused run c u ok j
 worked-ok run c (Pruning u) ok waits-prune (means-pruned mks) = prune-fine run c u ok mks
 worked-ok run c (Pruning u) ok waits-prune (means-no-prune {n = j}) = prune-refused run c u ok j
-worked-ok run c (Sealing u x) ok waits-seal (means-edge {x = y} s e) = seal-fine run c u x ok y s e
+worked-ok run c (Sealing u x) ok waits-seal (means-edges {x = y} s e) = seal-fine run c u x ok y s e
 worked-ok run c (Sealing u x) ok waits-seal (means-no-seal {n = j}) = seal-refused run c u x ok j
 worked-ok run c (Offering p) ok waits-offer (means-installed low) = offer-fine run c p ok low
 worked-ok run c (Offering p) ok waits-offer (means-no-install {n = j}) = offer-refused run c p ok j

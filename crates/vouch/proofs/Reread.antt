@@ -42,7 +42,7 @@ use Rattle.client.specs.Take.{goesOn, worked, answered}
 use Rattle.client.proofs.Turns.{page-cases, otherwise-cases, sends-sent, otherwise-ends, page-shown, works-good}
 use Rattle.rule.specs.World.{World, shapeUnder, running, clientAt, unitAt, letterAt, blankLetter}
 use Rattle.rule.specs.Serve.{ServedWorld, bare, pageOf, unitSays, unitAfter, serve}
-use Rattle.rule.specs.Serve.{shown as reading-of}
+use Rattle.rule.specs.Serve.{pageShown as reading-of}
 use Rattle.rule.specs.Steps.{Done, fine, request, ended, answerTo, step}
 use Rattle.rule.proofs.Serving.{unit-same}
 use Rattle.vouch.specs.Runs.{result}
@@ -71,7 +71,7 @@ takes-answer x n s fits few false e = otherwise-ends x n (eqb-false n 0 e) few
 pub ends-answer : (x : Client) (n : ℕ) (s : Content) (b : Bool) → eqb n 0 ≡ b → onRead x (told n s b .reply) (told n s b .page) .act ≡ Ends →
     onRead x (told n s b .reply) (told n s b .page) .outcome ≡ outcomeOf x n (cond b (pageOf s) noPage)
 ends-answer x n s true e =
-    page-cases (λ (t : Turn). t .act ≡ Ends → t .outcome ≡ outcomeOf x n (pageOf s)) x (pageOf s) (λ shown done. ap (λ m. outcomeOf x m (pageOf s)) (sym (eqb-true n 0 e)))
+    page-cases (λ (t : Turn). t .act ≡ Ends → t .outcome ≡ outcomeOf x n (pageOf s)) x (pageOf s) (λ pageShown done. ap (λ m. outcomeOf x m (pageOf s)) (sym (eqb-true n 0 e)))
     (λ misfit done. absurd (let z : _≡_ {A = ℕ} 0 1 = cc in omega arith))
 ends-answer x n s false e =
     otherwise-cases (λ (t : Turn). t .act ≡ Ends → t .outcome ≡ outcomeOf x n noPage) x n (λ none done. absurd (let z : _≡_ {A = ℕ} 0 1 = cc in omega arith)) (λ some done. refl)

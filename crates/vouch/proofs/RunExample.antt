@@ -31,7 +31,7 @@ use Rattle.client.specs.Take.{holds, worksOn, awaited, takes}
 use Rattle.rule.specs.declared.Step.the-variants.{Begin, Deliver}
 use Rattle.rule.specs.World.{clientAt}
 use Rattle.rule.specs.Steps.{without, turned, beginNumber, begins, served, taken, delivered, delivers, step}
-use Rattle.rule.specs.Serve.{kindOf, bytesOf, pageOf, shown, asking, fetching, unitSays, unitAfter, serve}
+use Rattle.rule.specs.Serve.{kindOf, bytesOf, pageOf, pageShown, asking, fetching, unitSays, unitAfter, serve}
 use Rattle.rule.specs.Fresh.{freshUnits, freshWorld}
 use Rattle.history.specs.Words.Page.{junk, bytes}
 use Rattle.history.specs.Words.Answer.{shows}
@@ -90,7 +90,7 @@ record Ran : Type 0 where
 
 -- by the rules, computed
 computed : Ran
-unfolding padded layOf valueOf zeros tidyChain tidyChains blankRanges tidy goodValue rising goodSet goodSets goodSpans firstAtZero used good placed setNumber setAt headOf tailOf after placeAnswer unitsAt fetchedFrom lookup insert written number position told sequencer-after idle sends dataLimit shapeFor writesAt writesOn beginTurn holds worksOn isShowable pageTaken pageCarried awaited takes without turned beginNumber begins served taken delivered delivers step kindOf bytesOf asking fetching unitSays unitAfter serve freshUnits freshWorld worldBy pageOf shown fillsOn isPage hasBytes isGone unit-says unit-after report
+unfolding padded layOf valueOf zeros tidyChain tidyChains blankRanges tidy goodValue rising goodSet goodSets goodSpans firstAtZero used good placed setNumber setAt headOf tailOf after placeAnswer unitsAt fetchedFrom lookup insert written number position told sequencer-after idle sends dataLimit shapeFor writesAt writesOn beginTurn holds worksOn isShowable pageTaken pageCarried awaited takes without turned beginNumber begins served taken delivered delivers step kindOf bytesOf asking fetching unitSays unitAfter serve freshUnits freshWorld worldBy pageOf pageShown fillsOn isPage hasBytes isGone unit-says unit-after report
 computed = record {
   l-is-good = refl;
   append-ran = record {

@@ -1,17 +1,17 @@
--- What a unit does with a seal: where its answer is fine the event may come, and what it answers is its edge, 2^40 at most.
+-- What a unit does with a seal: where its answer is fine the event may come, and what it tells is its edge.
 -- Rests on UnitIs, Untouched, Edges and the unit's laws.
 use mathlib.Core.Path.{_≡_, refl, sym, subst, _∙_}
 use borrow.Author.Tests.{le-leb}
 use Prim.Native.Nat.{_≤_}
 use native.Mathlib.Omega.{arith}
+use Rattle.num.specs.declared.Edges.{Edges}
 use Rattle.num.specs.Limits.{lastEpoch}
 use Rattle.unit.specs.declared.shape.Shape.{Shape}
 use Rattle.unit.specs.State.{State}
 use Rattle.unit.specs.Unit.{Request, says, after}
 use Rattle.unit.specs.Unit.{Request as request}
 use Rattle.unit.proofs.Answers.{by-answer, sealable, after-refused}
-use Rattle.unit.proofs.Lookup.{edge-limit}
-use Rattle.unit.proofs.Lasting.{lasts, seal-edge}
+use Rattle.unit.proofs.Lasting.{lasts, seal-edges}
 use Rattle.unit.proofs.Shown.{untouched}
 use Rattle.rule.specs.Serve.{edged}
 use Rattle.history.specs.Words.{UnitNo, Epoch}
@@ -44,6 +44,5 @@ module _ {sh : Shape} {h : History} {u : UnitNo} {M : State} (is : UnitIs sh h u
   seal-does =
       by-answer (λ r. SealDone sh h u n (after sh M asked-seal) r) (says sh M asked-seal)
       (λ z. did-seal (record { rises = omega (arith, sealable sh M _ z, is .sealed-is); in-force = in-force }) (sealed-is-now z)
-      (subst (λ g. EdgeAt (h ▹ seal u n) u n g) (sym (seal-edge sh M _ z .0)) (edge-at-now (edge-on (λ p from. seal-touches) (edge-is is))))
-      (omega (arith, seal-edge sh M _ z .0, edge-limit sh M (is .is-valid))))
+      (subst (λ (g : Edges). EdgeAt (h ▹ seal u n) u n (g .edge .0)) (sym (seal-edges sh M _ z .0)) (edge-at-now (edge-on (λ p from. seal-touches) (edge-is is)))))
       (λ k. no-seal k (subst (λ N. UnitIs sh h u N) (sym (after-refused sh M asked-seal k)) is))

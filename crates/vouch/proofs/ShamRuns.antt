@@ -7,6 +7,7 @@ use Prim.Native.Nat.{ℕ, _≤_}
 use native.Mathlib.Omega.{arith}
 use lib.Dec.{eqb}
 use lib.ListN.{set, replicate}
+use Rattle.num.specs.Edges.{largest, within}
 use Rattle.client.specs.declared.Page.{Page}
 use Rattle.client.specs.declared.state.Job.{Job}
 use Rattle.rule.specs.declared.Step.{Step}
@@ -35,21 +36,21 @@ use Rattle.client.specs.Read.{pageTaken, reads, onRead}
 use Rattle.client.specs.Fill.{pageCarried, fills, fillsOn, onFilled}
 use Rattle.client.specs.Begin.{beginAnswer, withJob, beginTurn, giveUp}
 use Rattle.client.specs.Take.{goesOn, holds, onFetched, worksOn, answered, awaited, takes}
-use Rattle.client.specs.Reorganise.{seals, offers, allSealed, sealsOn, reorganises, larger, edgeTaken, onSealed, starts, onOffered, onStarted}
+use Rattle.client.specs.Reorganise.{seals, offers, allSealed, sealsOn, reorganises, edgesTaken, onSealed, starts, onOffered, onStarted}
 use Rattle.client.specs.declared.Reply.the-variants.{Shown}
 use Rattle.rule.specs.World.{World, clientAt, letterAt}
 use Rattle.rule.specs.declared.Letter.{Letter}
 use Rattle.rule.specs.declared.Body.{Body}
 use Rattle.rule.specs.declared.Body.the-variants.{Blank, Asks, Answers}
 use Rattle.rule.specs.Steps.{without as letters-without, withLetters, turned, beginNumber, begins, served, taken, delivered, delivers, givesUp, step}
-use Rattle.rule.specs.Serve.{kindOf, bytesOf, pageOf, shown, edged, asking, fetching, offeringTo, unitSays, unitAfter, serve}
+use Rattle.rule.specs.Serve.{kindOf, bytesOf, pageOf, pageShown, edged, asking, fetching, offeringTo, unitSays, unitAfter, serve}
 use Rattle.rule.specs.Fresh.{freshUnits, freshWorld}
 use Rattle.history.specs.Words.Page.{bytes}
 use Rattle.history.specs.Words.Answer.{shows}
 use Rattle.vouch.specs.Runs.{Moves, Stepping, result, world, worldBy}
 use Rattle.vouch.specs.Runs.Moves.{none, _▸_}
 use Rattle.vouch.specs.Runs._≼_.{all-of, part-of}
-use Rattle.vouch.specs.Pages.{dataPage, junkPage, pageOf as pageOfJob}
+use Rattle.vouch.specs.Pages.{dataPage, junkPage, jobPage}
 use Rattle.vouch.specs.Operations.{outcome, Ends}
 use Rattle.vouch.specs.Operations.UnderWay.{begun, still}
 use Rattle.vouch.specs.Operations.Ends.{later}
@@ -83,7 +84,7 @@ pub record Swapped : Type 0 where
   pub reached : Reaches step l asked-first deliver both deliver 0 1
 
 pub swapped-run : Swapped
-unfolding rising goodSet goodSets goodSpans firstAtZero used good _in?_ inSets usedFrom unitsOf padded layOf valueOf zeros tidyChain tidyChains blankRanges tidy goodValue placed setNumber setAt headOf tailOf after above placeAnswer unitsAt without badDrops emptied planned lastStart goodChains reorganiseAnswer plannedFor isOpen settleAnswer settled settledFirst startedAt offerAnswer offeredTo fetchedFrom sublist keepsSets keepsSpans lawful lookup insert lastEnd edge written sealedAt number position told sequencer-after idle sends dataLimit shapeFor writesAt writesOn beginTurn holds worksOn isShowable pageTaken pageCarried awaited takes allSealed sealsOn reorganises larger edgeTaken letters-without turned beginNumber begins served taken delivered delivers step kindOf bytesOf pageOf shown edged asking fetching offeringTo unitSays unitAfter serve freshUnits freshWorld worldBy fillsOn isPage hasBytes isGone unit-says unit-after report
+unfolding rising goodSet goodSets goodSpans firstAtZero used good _in?_ inSets usedFrom unitsOf padded layOf valueOf zeros tidyChain tidyChains blankRanges tidy goodValue placed setNumber setAt headOf tailOf after above placeAnswer unitsAt without badDrops emptied planned lastStart goodChains reorganiseAnswer plannedFor isOpen settleAnswer settled settledFirst startedAt offerAnswer offeredTo fetchedFrom sublist keepsSets keepsSpans lawful lookup insert lastEnd edge written sealedAt number position told sequencer-after idle sends dataLimit shapeFor writesAt writesOn beginTurn holds worksOn isShowable pageTaken pageCarried awaited takes allSealed sealsOn reorganises largest within edgesTaken letters-without turned beginNumber begins served taken delivered delivers step kindOf bytesOf pageOf pageShown edged asking fetching offeringTo unitSays unitAfter serve freshUnits freshWorld worldBy fillsOn isPage hasBytes isGone unit-says unit-after report
 swapped-run =
     let taken-it : letterAt (world l both) 0 ≡ shows-7 = refl in
     let given : lastLetter (world l reading) ≡ shows-7 = refl in
@@ -159,7 +160,7 @@ pub record Astray : Type 0 where
   pub second-returns : outcome elsewhere l honest deliver ≡ returned 1 junkPage
 
 pub astray-run : Astray
-unfolding rising goodSet goodSets goodSpans firstAtZero used good _in?_ inSets usedFrom unitsOf padded layOf valueOf zeros tidyChain tidyChains blankRanges tidy goodValue placed setNumber setAt headOf tailOf after above placeAnswer unitsAt without badDrops emptied planned lastStart goodChains reorganiseAnswer plannedFor isOpen settleAnswer settled settledFirst startedAt offerAnswer offeredTo fetchedFrom sublist keepsSets keepsSpans lawful lookup insert lastEnd edge written sealedAt number position told sequencer-after idle sends dataLimit shapeFor writesAt writesOn beginTurn holds worksOn isShowable pageTaken pageCarried awaited takes allSealed sealsOn reorganises larger edgeTaken letters-without turned beginNumber begins served taken delivered delivers step kindOf bytesOf pageOf shown edged asking fetching offeringTo unitSays unitAfter serve freshUnits freshWorld worldBy fillsOn isPage hasBytes isGone unit-says unit-after report
+unfolding rising goodSet goodSets goodSpans firstAtZero used good _in?_ inSets usedFrom unitsOf padded layOf valueOf zeros tidyChain tidyChains blankRanges tidy goodValue placed setNumber setAt headOf tailOf after above placeAnswer unitsAt without badDrops emptied planned lastStart goodChains reorganiseAnswer plannedFor isOpen settleAnswer settled settledFirst startedAt offerAnswer offeredTo fetchedFrom sublist keepsSets keepsSpans lawful lookup insert lastEnd edge written sealedAt number position told sequencer-after idle sends dataLimit shapeFor writesAt writesOn beginTurn holds worksOn isShowable pageTaken pageCarried awaited takes allSealed sealsOn reorganises largest within edgesTaken letters-without turned beginNumber begins served taken delivered delivers step kindOf bytesOf pageOf pageShown edged asking fetching offeringTo unitSays unitAfter serve freshUnits freshWorld worldBy fillsOn isPage hasBytes isGone unit-says unit-after report
 astray-run = record {
   first-ends = record {
     client = 2;
@@ -208,14 +209,14 @@ abbrev pub lost-asked : Moves
 lost-asked = lost ▸ deliver ▸ begin 2 (jobOf (Read (record { 0 = 0 }))) ▸ deliver ▸ deliver
 
 pub record Lost : Type 0 where
-  pub acknowledged : AppendDone losing l lost deliver 0 (pageOfJob append-3)
+  pub acknowledged : AppendDone losing l lost deliver 0 (jobPage append-3)
   pub reached : Reaches losing l lost-asked deliver (lost-asked ▸ deliver) deliver 0 2
   pub in-force : InForce losing l lost-asked 2
   pub read-ends-so : ReadEnds losing l (lost-asked ▸ deliver) deliver 0
   pub number-is : outcome losing l (lost-asked ▸ deliver) deliver .number ≡ 7
 
 pub lost-run : Lost
-unfolding rising goodSet goodSets goodSpans firstAtZero used good _in?_ inSets usedFrom unitsOf padded layOf valueOf zeros tidyChain tidyChains blankRanges tidy goodValue placed setNumber setAt headOf tailOf after above placeAnswer unitsAt without badDrops emptied planned lastStart goodChains reorganiseAnswer plannedFor isOpen settleAnswer settled settledFirst startedAt offerAnswer offeredTo fetchedFrom sublist keepsSets keepsSpans lawful lookup insert lastEnd edge written sealedAt number position told sequencer-after idle sends dataLimit shapeFor writesAt writesOn beginTurn holds worksOn isShowable pageTaken noRefusal awaited takes allSealed sealsOn reorganises larger edgeTaken letters-without turned beginNumber begins served taken delivered delivers step kindOf bytesOf pageOf shown edged asking fetching offeringTo unitSays unitAfter serve freshUnits freshWorld worldBy otherwise isPage hasBytes isGone unit-says unit-after report
+unfolding rising goodSet goodSets goodSpans firstAtZero used good _in?_ inSets usedFrom unitsOf padded layOf valueOf zeros tidyChain tidyChains blankRanges tidy goodValue placed setNumber setAt headOf tailOf after above placeAnswer unitsAt without badDrops emptied planned lastStart goodChains reorganiseAnswer plannedFor isOpen settleAnswer settled settledFirst startedAt offerAnswer offeredTo fetchedFrom sublist keepsSets keepsSpans lawful lookup insert lastEnd edge written sealedAt number position told sequencer-after idle sends dataLimit shapeFor writesAt writesOn beginTurn holds worksOn isShowable pageTaken noRefusal awaited takes allSealed sealsOn reorganises largest within edgesTaken letters-without turned beginNumber begins served taken delivered delivers step kindOf bytesOf pageOf pageShown edged asking fetching offeringTo unitSays unitAfter serve freshUnits freshWorld worldBy otherwise isPage hasBytes isGone unit-says unit-after report
 lost-run = record {
   acknowledged = record {
     client = 1;
@@ -290,7 +291,7 @@ pub record Stale : Type 0 where
   pub number-is : outcome stale l (given-up ▸ begin 2 late) deliver .number ≡ 7
 
 pub stale-run : Stale
-unfolding rising goodSet goodSets goodSpans firstAtZero used good _in?_ inSets usedFrom unitsOf padded layOf valueOf zeros tidyChain tidyChains blankRanges tidy goodValue placed setNumber setAt headOf tailOf after above placeAnswer unitsAt without badDrops emptied planned lastStart goodChains reorganiseAnswer plannedFor isOpen settleAnswer settled settledFirst startedAt offerAnswer offeredTo fetchedFrom sublist keepsSets keepsSpans lawful lookup insert lastEnd edge written sealedAt number position told sequencer-after idle sends dataLimit shapeFor writesAt writesOn beginTurn holds worksOn isShowable pageTaken noRefusal awaited takes allSealed sealsOn reorganises larger edgeTaken letters-without turned beginNumber begins served taken delivered delivers step kindOf bytesOf pageOf shown edged asking fetching offeringTo unitSays unitAfter serve freshUnits freshWorld worldBy otherwise giveUp givesUp isPage hasBytes isGone unit-says unit-after report
+unfolding rising goodSet goodSets goodSpans firstAtZero used good _in?_ inSets usedFrom unitsOf padded layOf valueOf zeros tidyChain tidyChains blankRanges tidy goodValue placed setNumber setAt headOf tailOf after above placeAnswer unitsAt without badDrops emptied planned lastStart goodChains reorganiseAnswer plannedFor isOpen settleAnswer settled settledFirst startedAt offerAnswer offeredTo fetchedFrom sublist keepsSets keepsSpans lawful lookup insert lastEnd edge written sealedAt number position told sequencer-after idle sends dataLimit shapeFor writesAt writesOn beginTurn holds worksOn isShowable pageTaken noRefusal awaited takes allSealed sealsOn reorganises largest within edgesTaken letters-without turned beginNumber begins served taken delivered delivers step kindOf bytesOf pageOf pageShown edged asking fetching offeringTo unitSays unitAfter serve freshUnits freshWorld worldBy otherwise giveUp givesUp isPage hasBytes isGone unit-says unit-after report
 stale-run = record {
   late-ends = later (begun (record { does-begin = refl; job-is = refl; not-refused = refl }) (not-yet two refl)) refl;
   number-is = refl;

@@ -33,7 +33,7 @@ use Rattle.rule.specs.declared.Letter.{Letter}
 use Rattle.rule.specs.declared.Body.the-variants.{Answers}
 use Rattle.rule.specs.World.{shapeUnder, clientAt, unitAt, letterAt}
 use Rattle.rule.specs.Serve.{bare, serve}
-use Rattle.rule.specs.Serve.{pageOf as slotPage, shown as shown-by, unitSays}
+use Rattle.rule.specs.Serve.{pageOf as slotPage, pageShown, unitSays}
 use Rattle.rule.specs.Steps.{step}
 use Rattle.history.specs.Words.{Answer}
 use Rattle.history.specs.Words.Page.{junk, bytes}
@@ -41,7 +41,7 @@ use Rattle.history.specs.Words.Answer.{shows, trimmed, unwritten}
 use Rattle.history.specs.History.Note.{append, fillAt, trimAt, pruneTo}
 use Rattle.vouch.specs.Runs.{Move, Moves, _≼_, result, world}
 use Rattle.vouch.specs.Runs.Moves.{_▸_}
-use Rattle.vouch.specs.Pages.{pageOf, IsPage}
+use Rattle.vouch.specs.Pages.{jobPage, IsPage}
 use Rattle.vouch.specs.Pages.IsPage.{is-data, is-junk}
 use Rattle.vouch.specs.Operations.{Asked}
 use Rattle.vouch.specs.Demand.{UnitSays, AppendDone, ReadEnds, PageAsked, CutAsked, Reaches, InForce, ReadOver, Rightly, OrSealed, Demand3}
@@ -97,8 +97,8 @@ answers-same : {x y : Reply} → Answers x ≡ Answers y → x ≡ y
 answers-same e = cc (e)
 
 -- no unit answers a read with a layout
-not-held : (sh : Shape) (M : State) (e : EpochValue) (p : Position) → ¬ (shown-by sh M e p .reply ≡ Held)
-unfolding shown-by
+not-held : (sh : Shape) (M : State) (e : EpochValue) (p : Position) → ¬ (pageShown sh M e p .reply ≡ Held)
+unfolding pageShown
 not-held sh M e p = go (eqb n 0)
   where
     n : ℕ
@@ -216,7 +216,7 @@ module _ (l : Layout) (good : goodValue l ≡ true) (first : l .epoch .0 ≡ 1) 
     begins = record { does-begin = a .begins; job-is = refl; not-refused = a .not-refused };
   }
 
-  job-page : {ms : Moves} {j : Job} → Asked step l ms j → j .work ≡ Append → IsPage cap (pageOf j)
+  job-page : {ms : Moves} {j : Job} → Asked step l ms j → j .work ≡ Append → IsPage cap (jobPage j)
   job-page {j = j} a is = is-data (j .len) (j .bytes) (begins-fit l (a .begins) is)
 
   append-of : {ms : Moves} {p : ℕ} {bs : List ℕ} {X : Page} (j : Job) → fields.Wants j (append (bytes bs)) → Asked step l ms j → IsPage cap X → carried X ≡ bytes bs → PageAsked step l ms p X

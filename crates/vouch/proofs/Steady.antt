@@ -4,6 +4,8 @@ use mathlib.Core.Path.{_≡_, refl, ap, _∙_}
 use mathlib.Core.Bool.{Bool, true, false, _||_, cond}
 use Prim.Native.Nat.{ℕ, _+_}
 use lib.Dec.{eqb, leb, ltb}
+use Rattle.num.specs.declared.Edges.{Edges}
+use Rattle.num.specs.Edges.{noEdges, largest, within}
 use Rattle.num.specs.Limits.{limit}
 use Rattle.num.specs.declared.Position.{Position}
 use Rattle.layout.specs.declared.Layout.{Layout}
@@ -13,7 +15,7 @@ use Rattle.client.specs.declared.UnitAsk.the-variants as unit-ask
 use Rattle.client.specs.declared.Page.{Page}
 use Rattle.client.specs.declared.Query.{Query}
 use Rattle.client.specs.declared.Reply.{Reply}
-use Rattle.client.specs.declared.Reply.the-variants.{Held, Given, Fine, Shown, Edge, Refused}
+use Rattle.client.specs.declared.Reply.the-variants.{Held, Given, Fine, Shown, Edged, Refused}
 use Rattle.client.specs.declared.Response.{Response}
 use Rattle.client.specs.declared.Work.{Work}
 use Rattle.client.specs.declared.Work.the-variants.{Append, Read, Fill, Trim, Prune, Reorganise}
@@ -23,7 +25,7 @@ use Rattle.client.specs.declared.Stage.the-variants.{Idle, Fetching, Working}
 use Rattle.client.specs.declared.Phase.the-variants.{Drawing, Writing, Reading, Filling, Looking, Trimming, Pruning, Sealing, Offering, Starting}
 use Rattle.client.specs.declared.Client.{Client}
 use Rattle.client.specs.declared.turn.Turn.{Turn}
-use Rattle.client.specs.Message.{noRefusal, isShowable, noPage, plain, bearing, offering, numberOf, ifHeld, ifGiven, ifFine, ifShown, ifEdge}
+use Rattle.client.specs.Message.{noRefusal, isShowable, noPage, plain, bearing, offering, numberOf, ifHeld, ifGiven, ifFine, ifShown, ifEdged}
 use Rattle.client.specs.Client.{busy, tokenLimit, lastNumber, inPhase, atPosition, carrying, holding, planning}
 use Rattle.client.specs.Turn.{rests, over, ends, sent, sends, otherwise}
 use Rattle.client.specs.Way.{headFor, tailFor, afterFor, unitAbove, planFor, startFor}
@@ -31,7 +33,7 @@ use Rattle.client.specs.Append.{draws, writes, writesAt, onToken, writesOn, not
 use Rattle.client.specs.Read.{reads, pageTaken, onRead}
 use Rattle.client.specs.Fill.{fills, looks, fillsOn, notFilled, onFilled, pageCarried, onLooked}
 use Rattle.client.specs.Trim.{trims, trimsOn, onTrimmed, prunes, prunesOn, onPruned}
-use Rattle.client.specs.Reorganise.{seals, offers, allSealed, sealsOn, reorganises, larger, edgeTaken, onSealed, starts, onOffered, notStarted, onStarted}
+use Rattle.client.specs.Reorganise.{seals, offers, allSealed, sealsOn, reorganises, edgesTaken, onSealed, starts, onOffered, notStarted, onStarted}
 use Rattle.client.specs.Take.{goesOn, holds, onFetched, worked, answered}
 use Rattle.client.proofs.Turns.{working-cases}
 
@@ -60,7 +62,7 @@ module _ {c : Client} {s : Bool} {x y : Turn} where
   held (Given e) p q = q
   held Fine p q = q
   held Shown p q = q
-  held (Edge e) p q = q
+  held (Edged e) p q = q
   held (Refused n) p q = q
 
   fine : (a : Reply) → Steady c s x → Steady c s y → Steady c s (ifFine a x y)
@@ -68,7 +70,7 @@ module _ {c : Client} {s : Bool} {x y : Turn} where
   fine (Given e) p q = q
   fine Fine p q = p
   fine Shown p q = q
-  fine (Edge e) p q = q
+  fine (Edged e) p q = q
   fine (Refused n) p q = q
 
   shown : (a : Reply) → Steady c s x → Steady c s y → Steady c s (ifShown a x y)
@@ -76,7 +78,7 @@ module _ {c : Client} {s : Bool} {x y : Turn} where
   shown (Given e) p q = q
   shown Fine p q = q
   shown Shown p q = p
-  shown (Edge e) p q = q
+  shown (Edged e) p q = q
   shown (Refused n) p q = q
 
 module _ {c : Client} {s : Bool} {x : Position → Turn} {y : Turn} where
@@ -85,16 +87,17 @@ module _ {c : Client} {s : Bool} {x : Position → Turn} {y : Turn} where
   given (Given e) p q = p e
   given Fine p q = q
   given Shown p q = q
-  given (Edge e) p q = q
+  given (Edged e) p q = q
   given (Refused n) p q = q
 
-  edge : (a : Reply) → ((e : Position) → Steady c s (x e)) → Steady c s y → Steady c s (ifEdge a x y)
-  edge Held p q = q
-  edge (Given e) p q = q
-  edge Fine p q = q
-  edge Shown p q = q
-  edge (Edge e) p q = p e
-  edge (Refused n) p q = q
+module _ {c : Client} {s : Bool} {x : Edges → Turn} {y : Turn} where
+  edged : (a : Reply) → ((e : Edges) → Steady c s (x e)) → Steady c s y → Steady c s (ifEdged a x y)
+  edged Held p q = q
+  edged (Given e) p q = q
+  edged Fine p q = q
+  edged Shown p q = q
+  edged (Edged e) p q = p e
+  edged (Refused n) p q = q
 
 -- ---- a turn of c, which has an operation
 
@@ -159,13 +162,13 @@ module _ (c : Client) where
       let v = unitAbove (d .layout) u in
       either (eqb v 0) (ended d 0 like) (next d (Pruning v) (plain (ask.Unit v (unit-ask.Prune (d .layout .epoch) (d .position)))) like)
 
-  all-sealed : (d : Client) (e : Position) → Like c d → So (allSealed d e)
+  all-sealed : (d : Client) (e : Edges) → Like c d → So (allSealed d e)
   unfolding allSealed
   all-sealed d e like =
       let s = startFor d e in
       either (eqb (s .answer) 0) (next (planning d (s .layout)) (Offering (s .first)) (offering (s .layout)) (on refl refl refl refl like)) (ended d (s .answer) like)
 
-  seals-on : (d : Client) (u : ℕ) (e : Position) → Like c d → So (sealsOn d u e)
+  seals-on : (d : Client) (u : ℕ) (e : Edges) → Like c d → So (sealsOn d u e)
   unfolding sealsOn
   seals-on d u e like =
       let v = unitAbove (d .plan) u in
@@ -175,7 +178,7 @@ module _ (c : Client) where
   unfolding reorganises
   reorganises-so d like =
       let q = planFor d in
-      either (eqb (q .answer) 0) (seals-on (planning d (q .layout)) 0 (record { 0 = 0 }) (on refl refl refl refl like)) (ended d (q .answer) like)
+      either (eqb (q .answer) 0) (seals-on (planning d (q .layout)) 0 noEdges (on refl refl refl refl like)) (ended d (q .answer) like)
 
   goes-on : (w : Work) (d : Client) → Like c d → So (goesOn w d)
   goes-on Append d like = draws-so d 1 like
@@ -226,9 +229,9 @@ module _ (c : Client) where
   unfolding trimsOn
   trimmed u a = fine a (either (eqb (afterFor c u) 0) (ended c 0 self) (trims-so c (afterFor c u) self)) (other (numberOf a))
 
-  sealed : (u : ℕ) (e : Position) (a : Reply) → So (onSealed c u e a)
-  unfolding edgeTaken
-  sealed u e a = edge a (λ x. either (leb (x .0) limit) (seals-on c u (larger e x) self) rests-so) (other (numberOf a))
+  sealed : (u : ℕ) (e : Edges) (a : Reply) → So (onSealed c u e a)
+  unfolding edgesTaken
+  sealed u e a = edged a (λ x. either (within x) (seals-on c u (largest e x) self) rests-so) (other (numberOf a))
 
   offered : (p : Position) (a : Reply) → So (onOffered c p a)
   offered p a = fine a (next c Starting (plain (ask.Start (c .plan .epoch) p)) self) (other (numberOf a))

@@ -4,8 +4,7 @@ use mathlib.Core.Path.{_≡_}
 use mathlib.Core.Bool.{true, cond}
 use Prim.Native.Nat.{ℕ, _≤_}
 use lib.Dec.{eqb}
-use Rattle.num.specs.Limits.{limit}
-use Rattle.num.specs.declared.Position.{Position}
+use Rattle.num.specs.declared.Edges.{Edges}
 use Rattle.layout.specs.Value.{blank}
 use Rattle.unit.specs.declared.shape.Shape.{Shape}
 use Rattle.unit.specs.Kinds.{noKind, isGone}
@@ -14,7 +13,7 @@ use Rattle.unit.specs.Memory.{valid}
 use Rattle.unit.proofs.Shown.{shown}
 use Rattle.client.specs.declared.Page.{Page as PageValue}
 use Rattle.client.specs.declared.Reply.{Reply}
-use Rattle.client.specs.declared.Reply.the-variants.{Fine, Shown, Edge, Refused}
+use Rattle.client.specs.declared.Reply.the-variants.{Fine, Shown, Edged, Refused}
 use Rattle.client.specs.declared.Response.{Response}
 use Rattle.rule.specs.Serve.{bare}
 use Rattle.history.specs.Words.{UnitNo, Pos, Epoch, Page, Answer, Before}
@@ -28,11 +27,11 @@ use Rattle.history.specs.History.Mark.{page}
 use Rattle.history.specs.Events.{Takes, MayMark, MaySeal}
 use Rattle.history.specs.Edges.{EdgeAt}
 use Rattle.history.specs.Safety.{Answers}
-use Rattle.vouch.proofs.Carried.{pageOf, carried}
+use Rattle.vouch.proofs.Carried.{pageWith, carried}
 
 -- what a position answers to a read: "trimmed" where it is gone, "unwritten" where it has no slot, and otherwise its page
 unfoldable pub answerOf : Content → Answer
-answerOf s = cond (isGone (s .kind)) trimmed (cond (eqb (s .kind) noKind) unwritten (shows (pageOf (s .kind) (s .payload))))
+answerOf s = cond (isGone (s .kind)) trimmed (cond (eqb (s .kind) noKind) unwritten (shows (pageWith (s .kind) (s .payload))))
 
 -- M is the state of the unit u, of the shape sh, after h: its sealed epoch, and what it shows at every position (below the floor that it is gone).
 -- Its edge is one too: `edge-is`.
@@ -55,7 +54,7 @@ pub data MarkDone (sh : Shape) (h : History) (u : UnitNo) (e : Epoch) (ps : Stre
   no-mark : {n : ℕ} → ¬ (n ≡ 0) → UnitIs sh h u M → MarkDone sh h u e ps m M (Refused n)
 
 pub data SealDone (sh : Shape) (h : History) (u : UnitNo) (n : Epoch) (M : State) : Reply → Type 0 where
-  did-seal : {g : Position} → MaySeal h u n → UnitIs sh (h ▹ seal u n) u M → EdgeAt (h ▹ seal u n) u n (g .0) → g .0 ≤ limit → SealDone sh h u n M (Edge g)
+  did-seal : {g : Edges} → MaySeal h u n → UnitIs sh (h ▹ seal u n) u M → EdgeAt (h ▹ seal u n) u n (g .edge .0) → SealDone sh h u n M (Edged g)
   no-seal : {k : ℕ} → ¬ (k ≡ 0) → UnitIs sh h u M → SealDone sh h u n M (Refused k)
 
 -- a read leaves the unit as it was

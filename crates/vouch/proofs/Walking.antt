@@ -10,7 +10,7 @@ use Rattle.layout.specs.declared.Layout.{Layout}
 use Rattle.layout.specs.Lay.{good}
 use Rattle.layout.specs.Value.{layOf, goodValue}
 use Rattle.layout.specs.Places.{setAt, headOf, after}
-use Rattle.layout.proofs.Values.{value-of-good}
+use Rattle.layout.proofs.ValueOf.{value-of-good}
 use Rattle.client.specs.declared.Phase.{Phase}
 use Rattle.client.specs.declared.Phase.the-variants.{Drawing, Writing, Reading, Filling, Looking, Trimming, Pruning, Sealing, Offering, Starting}
 use Rattle.client.specs.declared.Stage.the-variants.{Working}

@@ -14,11 +14,13 @@ use Rattle.layout.specs.declared.Layout.{Layout}
 use Rattle.layout.specs.Lay.{Lay, good, unitsOf}
 use Rattle.layout.specs.Value.{layOf, goodValue}
 use Rattle.layout.specs.Places.{setAt, headOf, tailOf, after, nextUnit, placeAnswer, unitsAt}
-use Rattle.layout.proofs.Goodness.{good-says}
-use Rattle.layout.proofs.Goods.{set-at-good, is-good-set}
-use Rattle.layout.proofs.Answered.{units-there}
-use Rattle.layout.proofs.Sets.{head-in, units-rise, above-next, above-nearest, after-nearest}
-use Rattle.layout.proofs.Sets.{after-next as after-is, head-least as head-is-least}
+use Rattle.layout.proofs.GoodLay.{good-says}
+use Rattle.layout.proofs.SetNumber.{set-at-good}
+use Rattle.layout.proofs.GoodSets.{is-good-set}
+use Rattle.layout.proofs.PlaceAnswer.{units-there}
+use Rattle.layout.proofs.HeadAndTail.{head-in, head-least as head-is-least}
+use Rattle.layout.proofs.UnitsOf.{units-rise}
+use Rattle.layout.proofs.NextUnit.{above-next, above-nearest, after-nearest, after-next as after-is}
 use Rattle.history.specs.Words.{UnitNo, Pos, Last}
 use Rattle.history.specs.Words.Last.{last-here, last-later}
 use Rattle.history.specs.Maps.{Has, Serves}

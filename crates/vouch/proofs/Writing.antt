@@ -32,7 +32,7 @@ use Rattle.history.specs.History.Mark.{page}
 use Rattle.history.specs.Events.{Takes, Walked, MayMark, Run}
 use Rattle.history.specs.Safety.{Answers}
 use Rattle.history.specs.Safety.Answers.{has-page}
-use Rattle.vouch.proofs.Carried.{pageOf}
+use Rattle.vouch.proofs.Carried.{pageWith}
 use Rattle.history.proofs.Order.{before-in, before-behind, before-less}
 use Rattle.history.proofs.Stretches.{of-only, not-only, covered}
 use Rattle.history.proofs.Epochs.{laid-good}
@@ -49,7 +49,7 @@ pub empty-answers : (s : Content) → s .kind ≡ noKind → answerOf s ≡ unwr
 unfolding answerOf
 empty-answers s k = rw (k, none-stays)
 
-pub page-answers : (s : Content) → ¬ (s .kind ≡ noKind) → isGone (s .kind) ≡ false → answerOf s ≡ shows (pageOf (s .kind) (s .payload))
+pub page-answers : (s : Content) → ¬ (s .kind ≡ noKind) → isGone (s .kind) ≡ false → answerOf s ≡ shows (pageWith (s .kind) (s .payload))
 unfolding answerOf
 page-answers s k g = rw (g, ne-eqb (s .kind) noKind k)
 
@@ -77,12 +77,12 @@ pub takes-of : {sh : Shape} {h : History} {u : UnitNo} {M : State} {L : Map} {e 
 takes-of is laid has at lt = record { laid = laid; has = has; unsealed = omega (arith, is .sealed-is) }
 
 module _ {sh : Shape} {h : History} {u : UnitNo} {M : State} {e : Epoch} (run : Run h) (is : UnitIs sh h u M) (p kind : ℕ) (payload : List ℕ)
-    (walked : Walked h u e (only p) (page (pageOf kind payload))) where
+    (walked : Walked h u e (only p) (page (pageWith kind payload))) where
   abbrev asked-for : Request
   asked-for = request.write (record { 0 = e }) (record { 0 = p }) (content kind payload)
 
   -- "written": by law C, what it has is what the units before it have
-  same-page : {Y : Page} → M .sealed < e → Answers h u p (shows Y) → (v : UnitNo) → Before v u (walked .by .set p) → MarkedBy h u p (page (pageOf kind payload)) e
+  same-page : {Y : Page} → M .sealed < e → Answers h u p (shows Y) → (v : UnitNo) → Before v u (walked .by .set p) → MarkedBy h u p (page (pageWith kind payload)) e
   same-page lt (has-page {a = a} mk still) v before =
       let takes = takes-of is (walked .laid) (walked .has) (walked .epoch-is) lt in
       let theirs = walked .above p covers-only v before .marked in
@@ -90,29 +90,29 @@ module _ {sh : Shape} {h : History} {u : UnitNo} {M : State} {e : Epoch} (run : 
       record { epoch = a; by = omega (arith, marked-to run mk, is .sealed-is); marked = subst (λ Z. Marked h u p (page Z) a) (sym same) mk }
 
   -- fine: the position was neither written nor trimmed
-  may-write : says sh M asked-for ≡ 0 → MayMark h u e (only p) (page (pageOf kind payload))
+  may-write : says sh M asked-for ≡ 0 → MayMark h u e (only p) (page (pageWith kind payload))
   may-write z = record {
     walked = walked;
     takes = takes-of is (walked .laid) (walked .has) (walked .epoch-is) (writable sh M _ _ _ z .unsealed);
     free = of-only (λ q. Unmarked h u q) (not-marked (subst (λ r. Answers h u p r) (empty-answers (shown M p) (write-free sh M _ _ _ z)) (is .shown-is p)));
   }
 
-  written-is : says sh M asked-for ≡ 0 → UnitIs sh (h ▹ mark u e (only p) (page (pageOf kind payload))) u (after sh M asked-for)
+  written-is : says sh M asked-for ≡ 0 → UnitIs sh (h ▹ mark u e (only p) (page (pageWith kind payload))) u (after sh M asked-for)
   written-is z =
       let a-page = writable sh M _ _ _ z .takes .page in
       let l = lasts sh M (is .is-valid) asked-for refl in
       marked-is is (may-write z) (l .isValid, l .sealed z)
-      (of-only (λ q. answerOf (shown (after sh M asked-for) q) ≡ shows (pageOf kind payload))
+      (of-only (λ q. answerOf (shown (after sh M asked-for) q) ≡ shows (pageWith kind payload))
       (ap answerOf (write-here sh M _ _ _ z (is .is-valid)) ∙ page-answers (content kind payload) (page-some kind a-page) (page-stays kind a-page)))
       (λ q out. untouched sh M asked-for q (ne-eqb p q (not-only out)))
 
-  pub write-does : WriteDone sh h u (walked .by) p (pageOf kind payload) e (after sh M asked-for) (saying (says sh M asked-for))
+  pub write-does : WriteDone sh h u (walked .by) p (pageWith kind payload) e (after sh M asked-for) (saying (says sh M asked-for))
   write-does = go (says sh M asked-for) refl (write-tells sh M _ _ _)
     where
       still : {n : ℕ} → says sh M asked-for ≡ n → ¬ (n ≡ 0) → UnitIs sh h u (after sh M asked-for)
       still s ne = subst (λ N. UnitIs sh h u N) (sym (after-refused sh M asked-for (λ z. ne (sym s ∙ z)))) is
 
-      go : (n : ℕ) → says sh M asked-for ≡ n → WriteTells sh M (record { 0 = e }) (record { 0 = p }) (content kind payload) n → WriteDone sh h u (walked .by) p (pageOf kind payload) e (after sh M asked-for) (saying n)
+      go : (n : ℕ) → says sh M asked-for ≡ n → WriteTells sh M (record { 0 = e }) (record { 0 = p }) (content kind payload) n → WriteDone sh h u (walked .by) p (pageWith kind payload) e (after sh M asked-for) (saying n)
       go n s (write-position a) = no-write {n = 2} (λ z. omega arith) (λ z. omega arith) (still s (λ z. omega arith))
       go n s (write-page a) = no-write {n = 3} (λ z. omega arith) (λ z. omega arith) (still s (λ z. omega arith))
       go n s (write-sealed a) = no-write {n = 4} (λ z. omega arith) (λ z. omega arith) (still s (λ z. omega arith))

@@ -21,7 +21,7 @@ use Rattle.rule.specs.World.{World, isClient, letterAt}
 use Rattle.vouch.specs.Runs.{Move, Moves, _≼_, Stepping, worldBy}
 use Rattle.vouch.specs.Runs.Moves.{_▸_}
 use Rattle.vouch.specs.Operations.{done, outcome, UnderWay, Ends, Asked}
-use Rattle.vouch.specs.Pages.{junkPage, pageOf, IsPage}
+use Rattle.vouch.specs.Pages.{junkPage, jobPage, IsPage}
 
 -- the letter that came last: "a new letter goes to the end"
 abbrev pub lastLetter : World → Letter
@@ -45,7 +45,7 @@ module _ (f : Stepping) (l : Layout) where
     pub is-append : job .work ≡ Append
     pub number-is : outcome f l ms m .number ≡ 0
     pub position-is : outcome f l ms m .position .0 ≡ p
-    pub page-is : pageOf job ≡ X
+    pub page-is : jobPage job ≡ X
 
   -- with the move m after ms a client's read of p ends, with any number (a fill's look at a head is no read)
   pub record ReadEnds (ms : Moves) (m : Move) (p : ℕ) : Type 0 where
@@ -60,7 +60,7 @@ module _ (f : Stepping) (l : Layout) where
 
   -- among the moves ms, an append of X was asked for, or a fill of p, and X is junk
   pub data PageAsked (ms : Moves) (p : ℕ) (X : Page) : Type 0 where
-    by-append : {j : Job} → Asked f l ms j → j .work ≡ Append → pageOf j ≡ X → PageAsked ms p X
+    by-append : {j : Job} → Asked f l ms j → j .work ≡ Append → jobPage j ≡ X → PageAsked ms p X
     by-fill : {j : Job} {q : Position} → Asked f l ms j → j .work ≡ Fill q → q .0 ≡ p → junkPage ≡ X → PageAsked ms p X
 
   -- among the moves ms, a trim of p or a prune above p was asked for

@@ -16,8 +16,8 @@ abbrev pub junkPage : Page
 junkPage = record { kind = 2; len = 0; bytes = replicate pageLimit 0 }
 
 -- the page of an append: the first len bytes of its job
-abbrev pub pageOf : Job → Page
-pageOf j = dataPage (j .len) (j .bytes)
+abbrev pub jobPage : Job → Page
+jobPage j = dataPage (j .len) (j .bytes)
 
 -- all pages of a yard whose units hold so many bytes at a position
 pub data IsPage (cap : ℕ) : Page → Type 0 where

@@ -12,7 +12,7 @@ use Rattle.num.proofs.Tests.{and-both, cond-zero}
 use Rattle.layout.specs.declared.Layout.{Layout}
 use Rattle.layout.specs.Lay.{lastShape}
 use Rattle.layout.specs.Value.{goodValue, blank}
-use Rattle.layout.proofs.Values.{value-known}
+use Rattle.layout.proofs.ValueOf.{value-known}
 use Rattle.unit.specs.declared.shape.Shape.{Shape}
 use Rattle.unit.specs.Shape.{shapeFor}
 use Rattle.unit.specs.Unit.{freshUnit}

@@ -67,11 +67,14 @@ fn good_client(client: Client) -> bool
 fn good_clients(clients: [Client; Yard::CLIENTS]) -> bool
     ensures { λ r. ⌜ r ≡ goodClients clients ⌝ }
 {
-    let first = clients[0];
-    let second = clients[1];
-    let third = clients[2];
-    let fourth = clients[3];
-    good_client(first) & (good_client(second) & (good_client(third) & good_client(fourth)))
+    let mut client = clients[0];
+    let first = good_client(client);
+    client = clients[1];
+    let second = good_client(client);
+    client = clients[2];
+    let third = good_client(client);
+    client = clients[3];
+    first & (second & (third & good_client(client)))
 }
 
 // 1, 10 or 16 where what is lent is not as it must be.
@@ -115,21 +118,15 @@ fn chosen(yard: Yard, seq: Sequencer, l: Letter, units: &mut [u8], s: Step, job:
     ensures { λ r. ⌜ Decided (shapeUnder (yard .held)) l (λ ls. step (worldOf yard seq ls (now (units .entry))) s job) (yard .count) (letterPlace s) r (now (units .exit)) ⌝ }
 {
     match s {
-        Step::Begin(c) => begins(yard, seq, c, job),
-        Step::Deliver(i, keeps, keeps_answer) => delivers(
-            yard,
-            seq,
-            units,
-            i,
-            keeps,
-            keeps_answer,
-            l,
-        ),
-        Step::Drop(i) => drops(yard, seq, i),
-        Step::Stop(u) => stops(yard, seq, u),
-        Step::Restart(c) => restarts(yard, seq, c),
-        Step::GiveUp(c) => gives_up(yard, seq, c),
-        Step::Forget => forgets(yard, seq),
+        Step::Begin(c) => return begins(yard, seq, c, job),
+        Step::Deliver(i, keeps, keeps_answer) => {
+            return delivers(yard, seq, units, i, keeps, keeps_answer, l);
+        }
+        Step::Drop(i) => return drops(yard, seq, i),
+        Step::Stop(u) => return stops(yard, seq, u),
+        Step::Restart(c) => return restarts(yard, seq, c),
+        Step::GiveUp(c) => return gives_up(yard, seq, c),
+        Step::Forget => return forgets(yard, seq),
     }
 }
 

@@ -146,8 +146,8 @@ pub(crate) fn delivers(
     }
     let body = l.body;
     match body {
-        Body::Blank => refused(yard, seq, Answer::NOBODY),
-        Body::Asks(ask) => hands(yard, seq, units, keeps, keeps_answer, l, ask),
-        Body::Answers(reply) => returns_to(yard, seq, keeps, l, reply),
+        Body::Blank => return refused(yard, seq, Answer::NOBODY),
+        Body::Asks(ask) => return hands(yard, seq, units, keeps, keeps_answer, l, ask),
+        Body::Answers(reply) => return returns_to(yard, seq, keeps, l, reply),
     }
 }

@@ -62,7 +62,7 @@ fn fresh_number(held: Layout, places: usize, size: usize) -> u8
     let good = is_good(held) & (epoch.0 == 1);
     let table = pick(places != Yard::LETTERS, Answer::BAG_FULL, Answer::FINE);
     pick(
-        size != 49344,
+        size != Yard::SIZE,
         Answer::MEMORY,
         pick(!good, Answer::LAYOUT, table),
     )

@@ -109,10 +109,10 @@ pub(crate) fn serve(
 {
     let held = yard.held;
     match ask {
-        Ask::Fetch => beside(yard, seq, fetching(fetch(held))),
-        Ask::Token(epoch) => asking(held, seq, Asked::Token(epoch)),
-        Ask::Unit(u, asked) => beside(yard, seq, at_unit(units, u, asked, page)),
-        Ask::Offer => offering(held, seq, layout),
-        Ask::Start(epoch, p) => asking(held, seq, Asked::Start(epoch, p)),
+        Ask::Fetch => return beside(yard, seq, fetching(fetch(held))),
+        Ask::Token(epoch) => return asking(held, seq, Asked::Token(epoch)),
+        Ask::Unit(u, asked) => return beside(yard, seq, at_unit(units, u, asked, page)),
+        Ask::Offer => return offering(held, seq, layout),
+        Ask::Start(epoch, p) => return asking(held, seq, Asked::Start(epoch, p)),
     }
 }

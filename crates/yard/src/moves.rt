@@ -127,9 +127,9 @@ fn letter_of(c: u8, life: u16, act: Act, query: Query) -> Letter
     ensures { λ r. ⌜ r ≡ letterOf c life act query ⌝ }
 {
     match act {
-        Act::Rests => Letter::blank(),
-        Act::Sends(number) => request(c, life, number, query),
-        Act::Ends => Letter::blank(),
+        Act::Rests => return Letter::blank(),
+        Act::Sends(number) => return request(c, life, number, query),
+        Act::Ends => return Letter::blank(),
     }
 }
 

@@ -9,13 +9,14 @@ ghost use Rattle.client.specs.Message.{pageLimit};
 ghost use Rattle.unit.specs.Memory.{good as goodMemory};
 ghost use Rattle.unit.specs.State.{content};
 ghost use Rattle.unit.specs.Unit.{Request, says, after};
-ghost use Rattle.rule.specs.Serve.{saying, bare, kindOf, bytesOf, shown, edgeOr, edged, unitSays, unitAfter};
+ghost use Rattle.rule.specs.Serve.{saying, bare, kindOf, bytesOf, pageShown, edgesOr, edged, unitSays, unitAfter};
 ghost use Rattle.yard.specs.InsideParts.{heldIn, OnUnit};
 use client::Page;
 use client::Reply;
 use client::Response;
 use client::UnitAsk;
 use layout::Layout;
+use num::Edges;
 use num::Epoch;
 use num::Position;
 use num::answer::pick;
@@ -116,12 +117,12 @@ fn prune_on(mem: &mut [u8], epoch: Epoch, p: Position) -> Response
     bare(saying(number))
 }
 
-// The edge, or a refusal.
-fn edge_or(answer: u8, edge: u64) -> Reply
-    ensures { λ r. ⌜ r ≡ edgeOr answer edge ⌝ }
+// The edges, or a refusal.
+fn edges_or(answer: u8, edges: Edges) -> Reply
+    ensures { λ r. ⌜ r ≡ edgesOr answer edges ⌝ }
 {
     if answer == 0 {
-        Reply::Edge(Position(edge))
+        Reply::Edged(edges)
     } else {
         Reply::Refused(answer)
     }
@@ -134,13 +135,13 @@ fn seal_on(mem: &mut [u8], epoch: Epoch) -> Response
         (after (shapeOf (now (mem .entry))) (heldIn (now (mem .entry))) (Request.seal epoch)) r (now (mem .exit)) ⌝ }
 {
     let sealed = seal(mem, epoch);
-    bare(edge_or(sealed.answer, sealed.edge))
+    bare(edges_or(sealed.answer, sealed.edges))
 }
 
 // The page of a position, or a refusal.
 fn read_on(mem: &[u8], epoch: Epoch, p: Position) -> Response
     requires { ⌜ goodMemory (shapeOf (now mem)) (now mem) ≡ true ⌝ }
-    ensures { λ r. ⌜ r ≡ shown (shapeOf (now (mem .entry))) (heldIn (now (mem .entry))) epoch p ⌝ }
+    ensures { λ r. ⌜ r ≡ pageShown (shapeOf (now (mem .entry))) (heldIn (now (mem .entry))) epoch p ⌝ }
 {
     let seen = read(mem, epoch, p);
     if seen.answer != 0 {

@@ -29,7 +29,7 @@ fn good_unit(mem: &[u8], number: u64, shape: u8) -> bool
 pub(crate) fn good_units(units: &[u8], shape: u8) -> bool
     ensures { λ r. ⌜ r ≡ goodUnits shape 1 8 (now (units .entry)) ⌝ }
 {
-    if units.len() != 49344 {
+    if units.len() != Yard::SIZE {
         return false;
     }
     let mut i: usize = 0;

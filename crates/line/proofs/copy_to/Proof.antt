@@ -3,7 +3,7 @@ use native.Mathlib.Omega.{arith}
 use lib.ListN.{length, take, drop}
 use lib.Seq.{sets}
 use Rattle.num.proofs.Storing.{Storing, storing-none, storing-more, storing-all}
-use Rattle.layout.proofs.Same.{front-step, front-end}
+use Rattle.layout.proofs.Take.{front-step, front-end}
 use Rattle.line.proofs.copy_to.Statement.{statement}
 use Rattle.line.proofs.copy_to.Tie as tie
 

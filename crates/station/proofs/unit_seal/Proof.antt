@@ -1,4 +1,6 @@
+use mathlib.Core.Path.{ap}
 use borrow.Author.Needs.{needs}
+use Rattle.num.specs.declared.Edges.{Edges}
 use Rattle.num.proofs.Telling.{told-new, told-held}
 use Rattle.station.proofs.unit_seal.Statement.{statement}
 use Rattle.station.proofs.unit_seal.Tie as tie
@@ -12,7 +14,7 @@ same-length c = search needs
 returns : tie.Need-returns
 returns c =
     let r = c .before .before .before .seal .ensures in
-    record { answered = r .answered; edge-is = told-new _ (r .answered .answer-is) (c .if1 .taken) (r .edge-is) }
+    record { answered = r .answered; edge-is = told-new _ (r .answered .answer-is) (c .if1 .taken) (ap (λ (s : Edges). s .edge .0) (r .edges-is)) }
 
 same-length-2 : tie.Need-same-length-2
 same-length-2 c = search needs

@@ -8,12 +8,12 @@ use Rattle.client.proofs.fill.not_filled.Tie as tie
 head-for-requires : tie.Need-head-for-requires
 head-for-requires c κs = search needs
 
-looks-requires : tie.Need-looks-requires
-looks-requires c κs = search needs
+asks-requires : tie.Need-asks-requires
+asks-requires c κs = search needs
 
 returns : tie.Need-returns
 unfolding notFilled
-returns c = rw (c .looks .ensures, ← c .before .before .before .head-for .ensures, eq-eqb _ _ (c .before .before .if1 .taken), eq-eqb _ _ (c .before .if2 .taken))
+returns c = rw (c .asks .ensures, ← c .before .before .before .head-for .ensures, eq-eqb _ _ (c .before .before .if1 .taken), eq-eqb _ _ (c .before .if2 .taken))
 
 fills-on-requires : tie.Need-fills-on-requires
 fills-on-requires c κs = search needs
@@ -34,7 +34,7 @@ not-filled-spec =
     tie.close
     (tie.spec
     head-for-requires
-    looks-requires
+    asks-requires
     returns
     fills-on-requires
     returns-2

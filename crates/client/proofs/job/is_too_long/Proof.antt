@@ -1,5 +1,6 @@
 -- `client::job::is_too_long` meets its contract.
 use borrow.Author.Needs.{needs}
+use Rattle.client.proofs.Works.{brings-no-data}
 use Rattle.client.proofs.job.is_too_long.Statement.{statement}
 use Rattle.client.proofs.job.is_too_long.Tie as tie
 
@@ -9,53 +10,11 @@ enum-told c = search needs
 data-limit-requires : tie.Need-data-limit-requires
 data-limit-requires c κs = search needs
 
-enum-told-2 : tie.Need-enum-told-2
-enum-told-2 c = search needs
-
-enum-told-3 : tie.Need-enum-told-3
-enum-told-3 c = search needs
-
-enum-told-4 : tie.Need-enum-told-4
-enum-told-4 c = search needs
-
-enum-told-5 : tie.Need-enum-told-5
-enum-told-5 c = search needs
-
-enum-told-6 : tie.Need-enum-told-6
-enum-told-6 c = search needs
-
 returns : tie.Need-returns
 returns c = rw (c .data-limit .ensures, c .before .enum-told .given .1)
 
 returns-2 : tie.Need-returns-2
-returns-2 c = search needs
-
-returns-3 : tie.Need-returns-3
-returns-3 c = search needs
-
-returns-4 : tie.Need-returns-4
-returns-4 c = search needs
-
-returns-5 : tie.Need-returns-5
-returns-5 c = search needs
-
-returns-6 : tie.Need-returns-6
-returns-6 c = search needs
+returns-2 c = rw (brings-no-data _ (c .match .keys2))
 
 pub is-too-long-spec : {M : Type 1} → statement M
-is-too-long-spec =
-    tie.close
-    (tie.spec
-    enum-told
-    data-limit-requires
-    enum-told-2
-    enum-told-3
-    enum-told-4
-    enum-told-5
-    enum-told-6
-    returns
-    returns-2
-    returns-3
-    returns-4
-    returns-5
-    returns-6)
+is-too-long-spec = tie.close (tie.spec enum-told data-limit-requires returns returns-2)

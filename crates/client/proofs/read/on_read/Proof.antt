@@ -1,5 +1,6 @@
 -- `client::read::on_read` meets its contract.
 use borrow.Author.Needs.{needs}
+use Rattle.client.specs.Read.{pageTaken}
 use Rattle.client.proofs.Answers.{not-shown}
 use Rattle.client.proofs.read.on_read.Statement.{statement}
 use Rattle.client.proofs.read.on_read.Tie as tie
@@ -16,13 +17,33 @@ otherwise-requires c κs = search needs
 returns : tie.Need-returns
 returns c = rw (c .otherwise .ensures, c .before .number-of .ensures, not-shown _ (c .before .before .match .keys2))
 
-page-taken-requires : tie.Need-page-taken-requires
-page-taken-requires c κs = search needs
+is-showable-requires : tie.Need-is-showable-requires
+is-showable-requires c κs = search needs
+
+over-requires : tie.Need-over-requires
+over-requires c κs = search needs
 
 returns-2 : tie.Need-returns-2
-returns-2 c = rw (c .page-taken .ensures, c .before .enum-told .given .1)
+unfolding pageTaken
+returns-2 c = rw (c .over .ensures, c .before .before .before .enum-told .given .1, ← c .before .before .is-showable .ensures, c .before .if1 .taken)
+
+rests-requires : tie.Need-rests-requires
+rests-requires c κs = search needs
+
+returns-3 : tie.Need-returns-3
+unfolding pageTaken
+returns-3 c = rw (c .rests .ensures, c .before .before .before .enum-told .given .1, ← c .before .before .is-showable .ensures, c .before .if1 .left)
 
 pub on-read-spec : {M : Type 1} → statement M
 on-read-spec =
     tie.close
-    (tie.spec enum-told number-of-requires otherwise-requires returns page-taken-requires returns-2)
+    (tie.spec
+    enum-told
+    number-of-requires
+    otherwise-requires
+    returns
+    is-showable-requires
+    over-requires
+    returns-2
+    rests-requires
+    returns-3)

@@ -18,14 +18,28 @@ returns c = rw (c .ends .ensures, ← c .before .before .before .start-for .ensu
 planning-requires : tie.Need-planning-requires
 planning-requires c κs = search needs
 
-offers-requires : tie.Need-offers-requires
-offers-requires c κs = search needs
+in-phase-requires : tie.Need-in-phase-requires
+in-phase-requires c κs = search needs
+
+offering-requires : tie.Need-offering-requires
+offering-requires c κs = search needs
+
+sends-requires : tie.Need-sends-requires
+sends-requires c κs = search needs
 
 returns-2 : tie.Need-returns-2
 unfolding allSealed
-returns-2 c = rw (c .offers .ensures, c .before .planning .ensures, ← c .before .before .before .before .before .before .start-for .ensures, eq-eqb _ _ (c .before .before .before .before .if1 .left))
+returns-2 c = rw (c .sends .ensures, c .before .offering .ensures, c .before .before .in-phase .ensures, c .before .before .before .planning .ensures, ← c .before .before .before .before .before .before .before .before .start-for .ensures, eq-eqb _ _ (c .before .before .before .before .before .before .if1 .left))
 
 pub all-sealed-spec : {M : Type 1} → statement M
 all-sealed-spec =
     tie.close
-    (tie.spec start-for-requires ends-requires returns planning-requires offers-requires returns-2)
+    (tie.spec
+    start-for-requires
+    ends-requires
+    returns
+    planning-requires
+    in-phase-requires
+    offering-requires
+    sends-requires
+    returns-2)

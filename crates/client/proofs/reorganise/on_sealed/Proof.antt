@@ -1,6 +1,9 @@
 -- `client::reorganise::on_sealed` meets its contract.
+use mathlib.Core.Path.{sym, _∙_}
+use borrow.Author.Tests.{not-true, not-false}
 use borrow.Author.Needs.{needs}
-use Rattle.client.proofs.Answers.{not-edge}
+use Rattle.client.specs.Reorganise.{edgesTaken}
+use Rattle.client.proofs.Answers.{not-edged}
 use Rattle.client.proofs.reorganise.on_sealed.Statement.{statement}
 use Rattle.client.proofs.reorganise.on_sealed.Tie as tie
 
@@ -14,13 +17,27 @@ otherwise-requires : tie.Need-otherwise-requires
 otherwise-requires c κs = search needs
 
 returns : tie.Need-returns
-returns c = rw (c .otherwise .ensures, c .before .number-of .ensures, not-edge _ (c .before .before .match .keys2))
+returns c = rw (c .otherwise .ensures, c .before .number-of .ensures, not-edged _ (c .before .before .match .keys2))
 
-edge-taken-requires : tie.Need-edge-taken-requires
-edge-taken-requires c κs = search needs
+within-requires : tie.Need-within-requires
+within-requires c κs = search needs
+
+rests-requires : tie.Need-rests-requires
+rests-requires c κs = search needs
 
 returns-2 : tie.Need-returns-2
-returns-2 c = rw (c .edge-taken .ensures, c .before .before .reply .given .1)
+unfolding edgesTaken
+returns-2 c = rw (c .rests .ensures, c .before .before .before .before .reply .given .1, sym (c .before .before .within .ensures) ∙ not-true _ (c .before .if1 .taken))
+
+largest-requires : tie.Need-largest-requires
+largest-requires c κs = search needs
+
+seals-on-requires : tie.Need-seals-on-requires
+seals-on-requires c κs = search needs
+
+returns-3 : tie.Need-returns-3
+unfolding edgesTaken
+returns-3 c = rw (c .seals-on .ensures, c .before .largest .ensures, c .before .before .before .before .before .reply .given .1, sym (c .before .before .before .within .ensures) ∙ not-false _ (c .before .before .if1 .left))
 
 pub on-sealed-spec : {M : Type 1} → statement M
 on-sealed-spec =
@@ -30,5 +47,9 @@ on-sealed-spec =
     number-of-requires
     otherwise-requires
     returns
-    edge-taken-requires
-    returns-2)
+    within-requires
+    rests-requires
+    returns-2
+    largest-requires
+    seals-on-requires
+    returns-3)

@@ -18,12 +18,15 @@ returns c = rw (c .ends .ensures, ← c .before .before .before .plan-for .ensur
 planning-requires : tie.Need-planning-requires
 planning-requires c κs = search needs
 
+none-requires : tie.Need-none-requires
+none-requires c κs = search needs
+
 seals-on-requires : tie.Need-seals-on-requires
 seals-on-requires c κs = search needs
 
 returns-2 : tie.Need-returns-2
 unfolding reorganises
-returns-2 c = rw (c .seals-on .ensures, c .before .planning .ensures, ← c .before .before .before .before .before .plan-for .ensures, eq-eqb _ _ (c .before .before .before .if1 .left))
+returns-2 c = rw (c .seals-on .ensures, c .before .none .ensures, c .before .before .planning .ensures, ← c .before .before .before .before .before .before .plan-for .ensures, eq-eqb _ _ (c .before .before .before .before .if1 .left))
 
 pub reorganises-spec : {M : Type 1} → statement M
 reorganises-spec =
@@ -33,5 +36,6 @@ reorganises-spec =
     ends-requires
     returns
     planning-requires
+    none-requires
     seals-on-requires
     returns-2)

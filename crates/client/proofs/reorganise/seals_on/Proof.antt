@@ -11,17 +11,17 @@ unit-above-requires c κs = search needs
 all-sealed-requires : tie.Need-all-sealed-requires
 all-sealed-requires c κs = search needs
 
-seals-requires : tie.Need-seals-requires
-seals-requires c κs = search needs
-
 returns : tie.Need-returns
 unfolding sealsOn
 returns c = rw (c .all-sealed .ensures, ← c .before .before .unit-above .ensures, eq-eqb _ _ (c .before .if1 .taken))
 
+asks-requires : tie.Need-asks-requires
+asks-requires c κs = search needs
+
 returns-2 : tie.Need-returns-2
 unfolding sealsOn
-returns-2 c = rw (c .seals .ensures, ← c .before .before .unit-above .ensures, ne-eqb _ _ (c .before .if1 .left))
+returns-2 c = rw (c .asks .ensures, ← c .before .before .unit-above .ensures, ne-eqb _ _ (c .before .if1 .left))
 
 pub seals-on-spec : {M : Type 1} → statement M
 seals-on-spec =
-    tie.close (tie.spec unit-above-requires all-sealed-requires seals-requires returns returns-2)
+    tie.close (tie.spec unit-above-requires all-sealed-requires returns asks-requires returns-2)

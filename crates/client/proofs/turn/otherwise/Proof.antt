@@ -10,12 +10,12 @@ is-no-refusal-requires c κs = search needs
 rests-requires : tie.Need-rests-requires
 rests-requires c κs = search needs
 
-ends-requires : tie.Need-ends-requires
-ends-requires c κs = search needs
-
 returns : tie.Need-returns
 unfolding otherwise
 returns c = rw (c .rests .ensures, ← c .before .before .is-no-refusal .ensures, c .before .if1 .taken)
+
+ends-requires : tie.Need-ends-requires
+ends-requires c κs = search needs
 
 returns-2 : tie.Need-returns-2
 unfolding otherwise
@@ -23,4 +23,4 @@ returns-2 c = rw (c .ends .ensures, ← c .before .before .is-no-refusal .ensure
 
 pub otherwise-spec : {M : Type 1} → statement M
 otherwise-spec =
-    tie.close (tie.spec is-no-refusal-requires rests-requires ends-requires returns returns-2)
+    tie.close (tie.spec is-no-refusal-requires rests-requires returns ends-requires returns-2)

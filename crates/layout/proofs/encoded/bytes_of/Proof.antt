@@ -5,7 +5,7 @@ use Rattle.layout.specs.Codec.{bytesOf, encode}
 use Rattle.layout.specs.InsideGrowing.{nothing}
 use native.Mathlib.Omega.{arith}
 use Rattle.num.proofs.Numbers.{le-length}
-use Rattle.layout.proofs.Growing.{grown-count, grown-both}
+use Rattle.layout.proofs.Grown.{grown-count, grown-both}
 use borrow.Author.Needs.{needs}
 use Rattle.layout.proofs.encoded.bytes_of.Statement.{statement}
 use Rattle.layout.proofs.encoded.bytes_of.Tie as tie

@@ -2,7 +2,7 @@ use native.Mathlib.Omega.{arith}
 use mathlib.Core.Path.{_≡_}
 use lib.ListN.{length, length-map}
 use Rattle.layout.specs.Codec.{sizeLimit}
-use Rattle.layout.proofs.Growing.{pushed, pushed-past}
+use Rattle.layout.proofs.Grown.{pushed, pushed-past}
 use borrow.Author.Needs.{needs}
 use Rattle.layout.proofs.encoded.push.Statement.{statement}
 use Rattle.layout.proofs.encoded.push.Tie as tie

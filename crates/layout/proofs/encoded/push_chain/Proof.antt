@@ -4,7 +4,7 @@ use native.Mathlib.Omega.{arith}
 use mathlib.Core.Path.{_≡_}
 use lib.ListN.{take, drop}
 use Rattle.layout.specs.InsideGrowing.{grown}
-use Rattle.layout.proofs.Growing.{Put, put-none, put-front, front-put, chain-put, grown-count}
+use Rattle.layout.proofs.Grown.{Put, put-none, put-front, front-put, chain-put, grown-count}
 use Rattle.layout.proofs.encoded.push_chain.Statement.{statement}
 use Rattle.layout.proofs.encoded.push_chain.Tie as tie
 

@@ -1,5 +1,5 @@
 use mathlib.Core.Path.{sym}
-use Rattle.layout.proofs.Growing.{grown-none}
+use Rattle.layout.proofs.Grown.{grown-none}
 use borrow.Author.Needs.{needs}
 use Rattle.layout.proofs.encoded.push_if.Statement.{statement}
 use Rattle.layout.proofs.encoded.push_if.Tie as tie

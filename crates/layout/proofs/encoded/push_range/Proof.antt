@@ -2,7 +2,7 @@ use native.Mathlib.Omega.{arith}
 use mathlib.Core.List.{[], _∷_}
 use Rattle.num.specs.Bytes.{leBytes}
 use Rattle.num.proofs.Numbers.{le-length}
-use Rattle.layout.proofs.Growing.{grown-count, grown-both}
+use Rattle.layout.proofs.Grown.{grown-count, grown-both}
 use borrow.Author.Needs.{needs}
 use Rattle.layout.proofs.encoded.push_range.Statement.{statement}
 use Rattle.layout.proofs.encoded.push_range.Tie as tie

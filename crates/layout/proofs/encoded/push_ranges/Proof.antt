@@ -6,9 +6,9 @@ use lib.ListN.{length, take, drop, length-map}
 use Rattle.layout.specs.Value.{layOf, spanIn}
 use Rattle.layout.specs.Codec.{spansBytes}
 use Rattle.layout.specs.InsideGrowing.{grown}
-use Rattle.layout.proofs.Fronts.{front-length}
-use Rattle.layout.proofs.Growing.{Put, put-none, section-put, grown-count}
-use Rattle.layout.proofs.Sections.{put-span, spans-put}
+use Rattle.layout.proofs.Take.{front-length}
+use Rattle.layout.proofs.Grown.{Put, put-none, section-put, grown-count}
+use Rattle.layout.proofs.GrownSections.{put-span, spans-put}
 use Rattle.layout.proofs.encoded.push_ranges.Statement.{statement}
 use Rattle.layout.proofs.encoded.push_ranges.Tie as tie
 

@@ -5,8 +5,8 @@ use lib.ListN.{take}
 use Rattle.layout.specs.Lay.{unitsOf, usedFrom}
 use Rattle.layout.specs.Value.{layOf, unitsIn}
 use Rattle.layout.specs.InsideGrowing.{grown}
-use Rattle.layout.proofs.Growing.{Put, put-none, section-put, grown-count}
-use Rattle.layout.proofs.Sections.{put-unit, units-put}
+use Rattle.layout.proofs.Grown.{Put, put-none, section-put, grown-count}
+use Rattle.layout.proofs.GrownSections.{put-unit, units-put}
 use Rattle.layout.proofs.encoded.push_units.Statement.{statement}
 use Rattle.layout.proofs.encoded.push_units.Tie as tie
 

@@ -3,7 +3,7 @@ use native.Mathlib.Omega.{arith}
 use mathlib.Core.List.{map}
 use lib.ListN.{take}
 use Rattle.layout.specs.Value.{layOf, unitsIn}
-use Rattle.layout.proofs.Sections.{UnitsSeen, units-none, units-more, units-all}
+use Rattle.layout.proofs.GrownSections.{UnitsSeen, units-none, units-more, units-all}
 use Rattle.layout.proofs.encoded.units_used.Statement.{statement}
 use Rattle.layout.proofs.encoded.units_used.Tie as tie
 

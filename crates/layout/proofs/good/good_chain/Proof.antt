@@ -1,5 +1,5 @@
 use lib.ListN.{length-map}
-use Rattle.layout.proofs.Testing.{chain-test}
+use Rattle.layout.proofs.TidyChains.{chain-test}
 use borrow.Author.Needs.{needs}
 use Rattle.layout.proofs.good.good_chain.Statement.{statement}
 use Rattle.layout.proofs.good.good_chain.Tie as tie

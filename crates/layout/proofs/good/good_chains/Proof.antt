@@ -4,7 +4,7 @@ use mathlib.Core.Path.{_≡_}
 use native.Mathlib.Omega.{arith}
 use lib.ListN.{length, length-map}
 use Rattle.layout.specs.Value.{layOf}
-use Rattle.layout.proofs.Walking.{ChainsSeen, chains-none, chains-more, chains-all}
+use Rattle.layout.proofs.TidyChains.{ChainsSeen, chains-none, chains-more, chains-all}
 use Rattle.layout.proofs.good.good_chains.Statement.{statement}
 use Rattle.layout.proofs.good.good_chains.Tie as tie
 

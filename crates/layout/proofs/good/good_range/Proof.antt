@@ -1,4 +1,4 @@
-use Rattle.layout.proofs.Bools.{either}
+use Rattle.num.proofs.Bools.{either}
 use Rattle.layout.proofs.good.good_range.Statement.{statement}
 use Rattle.layout.proofs.good.good_range.Tie as tie
 

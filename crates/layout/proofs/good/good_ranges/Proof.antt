@@ -4,7 +4,7 @@ use mathlib.Core.Path.{_≡_}
 use native.Mathlib.Omega.{arith}
 use lib.ListN.{length, length-map}
 use Rattle.layout.specs.Value.{layOf}
-use Rattle.layout.proofs.Walking.{RangesSeen, ranges-none, ranges-more, ranges-all}
+use Rattle.layout.proofs.BlankRanges.{RangesSeen, ranges-none, ranges-more, ranges-all}
 use Rattle.layout.proofs.good.good_ranges.Statement.{statement}
 use Rattle.layout.proofs.good.good_ranges.Tie as tie
 

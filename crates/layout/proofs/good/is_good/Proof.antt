@@ -2,7 +2,7 @@ use borrow.Author.Needs.{needs}
 use native.Mathlib.Omega.{arith}
 use lib.ListN.{length-map}
 use Rattle.layout.specs.Value.{noRange}
-use Rattle.layout.proofs.Deciding.{decided}
+use Rattle.layout.proofs.GoodValue.{decided}
 use Rattle.layout.proofs.good.is_good.Statement.{statement}
 use Rattle.layout.proofs.good.is_good.Tie as tie
 

@@ -4,7 +4,7 @@ use mathlib.Core.Path.{_≡_, _∙_}
 use native.Mathlib.Omega.{arith}
 use lib.ListN.{length, length-map}
 use Rattle.layout.specs.Value.{layOf}
-use Rattle.layout.proofs.Walking.{UsesSeen, uses-none, uses-more, uses-all}
+use Rattle.layout.proofs.Used.{UsesSeen, uses-none, uses-more, uses-all}
 use Rattle.layout.proofs.good.sets_used.Statement.{statement}
 use Rattle.layout.proofs.good.sets_used.Tie as tie
 

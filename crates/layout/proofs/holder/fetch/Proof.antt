@@ -1,5 +1,5 @@
 use mathlib.Core.Path.{sym, _∙_}
-use Rattle.layout.proofs.Holding.{fetched-good, fetched-none}
+use Rattle.layout.proofs.OfferedTo.{fetched-good, fetched-none}
 use Rattle.layout.proofs.holder.fetch.Statement.{statement}
 use Rattle.layout.proofs.holder.fetch.Tie as tie
 

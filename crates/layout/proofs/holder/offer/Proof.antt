@@ -1,5 +1,5 @@
 use mathlib.Core.Path.{sym, _∙_}
-use Rattle.layout.proofs.Holding.{installed, stays}
+use Rattle.layout.proofs.OfferedTo.{installed, stays}
 use Rattle.layout.proofs.holder.offer.Statement.{statement}
 use Rattle.layout.proofs.holder.offer.Tie as tie
 

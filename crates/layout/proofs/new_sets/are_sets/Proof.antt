@@ -6,7 +6,7 @@ use native.Mathlib.Nat.{sub-zero}
 use lib.ListN.{drop}
 use Rattle.layout.specs.Lay.{goodSets}
 use Rattle.layout.specs.Codec.{setsAt}
-use Rattle.layout.proofs.Scanning.{Scanned, scan-none, scan-more, scan-all, good-more, good-all, are-sets}
+use Rattle.layout.proofs.AreSets.{Scanned, scan-none, scan-more, scan-all, good-more, good-all, are-sets}
 use Rattle.layout.proofs.new_sets.are_sets.Statement.{statement}
 use Rattle.layout.proofs.new_sets.are_sets.Tie as tie
 

@@ -8,7 +8,7 @@ use lib.ListN.{drop}
 use Rattle.layout.specs.Lay.{inSets}
 use Rattle.layout.specs.Value.{unitsIn, chainOf}
 use Rattle.layout.specs.Codec.{setsAt}
-use Rattle.layout.proofs.Scanning.{Scanned, scan-none, scan-more, name-more, name-all, sets-named}
+use Rattle.layout.proofs.AreSets.{Scanned, scan-none, scan-more, name-more, name-all, sets-named}
 use Rattle.layout.proofs.new_sets.sets_name.Statement.{statement}
 use Rattle.layout.proofs.new_sets.sets_name.Tie as tie
 

@@ -1,5 +1,5 @@
 use borrow.Author.Needs.{needs}
-use Rattle.layout.proofs.Scanning.{wish-said}
+use Rattle.layout.proofs.AreSets.{wish-said}
 use Rattle.layout.proofs.new_sets.wish_of.Statement.{statement}
 use Rattle.layout.proofs.new_sets.wish_of.Tie as tie
 

@@ -4,7 +4,7 @@ use mathlib.Core.Path.{_≡_, refl, sym, _∙_}
 use native.Mathlib.Omega.{arith}
 use lib.ListN.{length, drop}
 use Rattle.layout.specs.Lay.{_in?_}
-use Rattle.layout.proofs.Fronts.{any-more, any-over, any-unit}
+use Rattle.layout.proofs.Any.{any-more, any-over, any-unit}
 use Rattle.layout.proofs.place.among.Statement.{statement}
 use Rattle.layout.proofs.place.among.Tie as tie
 

@@ -4,8 +4,8 @@ use mathlib.Core.Path.{_≡_, sym, ap, _∙_}
 use lib.ListN.{length, getD, length-map}
 use Prim.Native.Nat.{_<_}
 use Rattle.layout.specs.Value.{unitsIn}
-use Rattle.layout.proofs.Fronts.{pastSets}
-use Rattle.layout.proofs.Answered.{Stands, place-fine, number-small, units-there, units-refused, chain-there}
+use Rattle.layout.proofs.Take.{pastSets}
+use Rattle.layout.proofs.PlaceAnswer.{Stands, place-fine, number-small, units-there, units-refused, chain-there}
 use Rattle.layout.proofs.place.chain_at.Statement.{statement}
 use Rattle.layout.proofs.place.chain_at.Tie as tie
 

@@ -1,7 +1,7 @@
 use borrow.Author.Needs.{needs}
 use mathlib.Core.Path.{ap, _∙_}
 use Rattle.layout.specs.Places.{headOf}
-use Rattle.layout.proofs.Answered.{head-is}
+use Rattle.layout.proofs.HeadAndTail.{head-is}
 use Rattle.layout.proofs.place.head_at.Statement.{statement}
 use Rattle.layout.proofs.place.head_at.Tie as tie
 

@@ -4,7 +4,7 @@ use mathlib.Core.Path.{_≡_, sym, ap, _∙_}
 use lib.ListN.{length, length-map}
 use lib.Seq.{length-take-le}
 use Rattle.layout.specs.Lay.{_in?_}
-use Rattle.layout.proofs.Fronts.{clipped}
+use Rattle.layout.proofs.Take.{clipped}
 use Rattle.layout.proofs.place.holds.Statement.{statement}
 use Rattle.layout.proofs.place.holds.Tie as tie
 

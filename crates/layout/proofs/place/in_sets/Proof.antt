@@ -6,7 +6,8 @@ use native.Mathlib.Omega.{arith}
 use lib.ListN.{length, take, drop}
 use Rattle.layout.specs.Lay.{inSets}
 use Rattle.layout.specs.Value.{unitsIn}
-use Rattle.layout.proofs.Fronts.{pastSets, any-front, any-front-over, any-set}
+use Rattle.layout.proofs.Take.{pastSets}
+use Rattle.layout.proofs.Any.{any-front, any-front-over, any-set}
 use Rattle.layout.proofs.place.in_sets.Statement.{statement}
 use Rattle.layout.proofs.place.in_sets.Tie as tie
 

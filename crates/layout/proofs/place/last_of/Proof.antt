@@ -1,6 +1,6 @@
 use borrow.Author.Needs.{needs}
 use native.Mathlib.Omega.{arith}
-use Rattle.layout.proofs.Placing.{tail-is, tail-none}
+use Rattle.layout.proofs.HeadAndTail.{tail-is, tail-none}
 use Rattle.layout.proofs.place.last_of.Statement.{statement}
 use Rattle.layout.proofs.place.last_of.Tie as tie
 

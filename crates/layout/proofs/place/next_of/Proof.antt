@@ -3,7 +3,7 @@ use mathlib.Core.Path.{_≡_, refl, _∙_}
 use native.Mathlib.Omega.{arith}
 use lib.ListN.{length, drop}
 use Rattle.layout.specs.Places.{after}
-use Rattle.layout.proofs.Placing.{after-here, after-later, after-none}
+use Rattle.layout.proofs.NextUnit.{after-here, after-later, after-none}
 use Rattle.layout.proofs.place.next_of.Statement.{statement}
 use Rattle.layout.proofs.place.next_of.Tie as tie
 

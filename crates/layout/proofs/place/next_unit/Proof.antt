@@ -4,7 +4,7 @@ use native.Mathlib.Omega.{arith}
 use Rattle.layout.specs.Lay.{unitsOf}
 use Rattle.layout.specs.Value.{layOf}
 use Rattle.layout.specs.Places.{nextUnit}
-use Rattle.layout.proofs.Nexts.{aboveFrom, above-here, above-later, above-none}
+use Rattle.layout.proofs.NextUnit.{aboveFrom, above-here, above-later, above-none}
 use Rattle.layout.proofs.place.next_unit.Statement.{statement}
 use Rattle.layout.proofs.place.next_unit.Tie as tie
 

@@ -7,8 +7,8 @@ use borrow.Author.Tests.{le-leb, lt-leb}
 use lib.ListN.{length, length-map, getD}
 use Rattle.layout.specs.Value.{layOf, noRange}
 use Rattle.layout.specs.Places.{setNumber}
-use Rattle.layout.proofs.Goodness.{good-says}
-use Rattle.layout.proofs.Placing.{Passed, front-uses, passed-more, passed-all}
+use Rattle.layout.proofs.GoodLay.{good-says}
+use Rattle.layout.proofs.SetNumber.{Passed, front-uses, passed-more, passed-all}
 use Rattle.layout.proofs.place.number_of.Statement.{statement}
 use Rattle.layout.proofs.place.number_of.Tie as tie
 

@@ -2,7 +2,7 @@ use native.Mathlib.Omega.{arith}
 use mathlib.Core.Path.{sym, _∙_}
 use lib.ListN.{length-map}
 use Rattle.layout.specs.Value.{layOf, spanIn}
-use Rattle.layout.proofs.Fronts.{front-length}
+use Rattle.layout.proofs.Take.{front-length}
 use Rattle.layout.proofs.place.range_total.Statement.{statement}
 use Rattle.layout.proofs.place.range_total.Tie as tie
 

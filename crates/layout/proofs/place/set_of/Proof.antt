@@ -2,7 +2,7 @@ use borrow.Author.Needs.{needs}
 use native.Mathlib.Omega.{arith}
 use mathlib.Core.Path.{_≡_, sym, _∙_}
 use lib.ListN.{length, length-map}
-use Rattle.layout.proofs.Answered.{Stands, place-fine, number-small, placed-there, placed-refused}
+use Rattle.layout.proofs.PlaceAnswer.{Stands, place-fine, number-small, placed-there, placed-refused}
 use Rattle.layout.proofs.place.set_of.Statement.{statement}
 use Rattle.layout.proofs.place.set_of.Tie as tie
 

@@ -4,8 +4,8 @@ use native.Mathlib.Nat.{add-zero}
 use mathlib.Core.Path.{_≡_, sym}
 use lib.ListN.{length, take, length-map, length-take}
 use lib.Seq.{sets as stored, getD-take}
-use Rattle.layout.proofs.Fronts.{pastSets}
-use Rattle.layout.proofs.Storing.{Stored, stored-more, stored-all}
+use Rattle.layout.proofs.Take.{pastSets}
+use Rattle.layout.proofs.Stored.{Stored, stored-more, stored-all}
 use Rattle.layout.proofs.plan.add_sets.Statement.{statement}
 use Rattle.layout.proofs.plan.add_sets.Tie as tie
 

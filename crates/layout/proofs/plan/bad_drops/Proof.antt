@@ -4,8 +4,7 @@ use mathlib.Core.Path.{_≡_, refl, sym, _∙_}
 use mathlib.Core.Bool.{_||_}
 use lib.ListN.{length, drop}
 use Rattle.layout.specs.Plan.{badDrops, newOf}
-use Rattle.layout.proofs.Fronts.{any-more, any-over}
-use Rattle.layout.proofs.Thinning.{any-bad}
+use Rattle.layout.proofs.Any.{any-more, any-over, any-bad}
 use Rattle.layout.proofs.plan.bad_drops.Statement.{statement}
 use Rattle.layout.proofs.plan.bad_drops.Tie as tie
 

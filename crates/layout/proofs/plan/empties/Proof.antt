@@ -7,8 +7,8 @@ use lib.Dec.{eqb}
 use lib.ListN.{length, take, drop}
 use Rattle.layout.specs.Value.{unitsIn}
 use Rattle.layout.specs.Plan.{emptied}
-use Rattle.layout.proofs.Fronts.{pastSets, any-front, any-front-over}
-use Rattle.layout.proofs.Thinning.{any-emptied}
+use Rattle.layout.proofs.Take.{pastSets}
+use Rattle.layout.proofs.Any.{any-front, any-front-over, any-emptied}
 use Rattle.layout.proofs.plan.empties.Statement.{statement}
 use Rattle.layout.proofs.plan.empties.Tie as tie
 

@@ -1,5 +1,5 @@
 use native.Mathlib.Omega.{arith}
-use Rattle.layout.proofs.Starting.{open-yes, open-not}
+use Rattle.layout.proofs.StartedAt.{open-yes, open-not}
 use Rattle.layout.proofs.plan.has_open.Statement.{statement}
 use Rattle.layout.proofs.plan.has_open.Tie as tie
 

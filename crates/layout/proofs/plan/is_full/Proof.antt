@@ -4,8 +4,8 @@ use mathlib.Core.Path.{_≡_, sym, ap, _∙_}
 use lib.ListN.{length, length-map}
 use Rattle.layout.specs.Value.{unitsIn}
 use Rattle.layout.specs.Plan.{newOf, newRanges}
-use Rattle.layout.proofs.Fronts.{front-length}
-use Rattle.layout.proofs.Planning.{new-ranges}
+use Rattle.layout.proofs.Take.{front-length}
+use Rattle.layout.proofs.ReorganiseAnswer.{new-ranges}
 use Rattle.layout.proofs.plan.is_full.Statement.{statement}
 use Rattle.layout.proofs.plan.is_full.Tie as tie
 

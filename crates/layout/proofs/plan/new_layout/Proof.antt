@@ -1,8 +1,8 @@
 use native.Mathlib.Omega.{arith}
 use mathlib.Core.Path.{_≡_}
 use lib.ListN.{length, length-map}
-use Rattle.layout.proofs.Planning.{reorganise-fine}
-use Rattle.layout.proofs.Assembling.{Fitting, fitting, assembled-is}
+use Rattle.layout.proofs.ReorganiseAnswer.{reorganise-fine}
+use Rattle.layout.proofs.Assembled.{Fitting, fitting, assembled-is}
 use Rattle.layout.proofs.plan.new_layout.Statement.{statement}
 use Rattle.layout.proofs.plan.new_layout.Tie as tie
 

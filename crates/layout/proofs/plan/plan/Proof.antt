@@ -1,5 +1,5 @@
 use mathlib.Core.Path.{sym, _∙_}
-use Rattle.layout.proofs.Planning.{planned-fine, planned-refused}
+use Rattle.layout.proofs.ReorganiseAnswer.{planned-fine, planned-refused}
 use Rattle.layout.proofs.plan.plan.Statement.{statement}
 use Rattle.layout.proofs.plan.plan.Tie as tie
 

@@ -7,8 +7,8 @@ use lib.ListN.{length, getD, take, length-map}
 use lib.Seq.{length-take-le, getD-take}
 use Rattle.layout.specs.Value.{chainOf}
 use Rattle.layout.specs.Plan.{without}
-use Rattle.layout.proofs.Fronts.{clipped}
-use Rattle.layout.proofs.Thinning.{Thinned, thinned-none, thinned-drop, thinned-keep, thinned-all}
+use Rattle.layout.proofs.Take.{clipped}
+use Rattle.layout.proofs.Without.{Thinned, thinned-none, thinned-drop, thinned-keep, thinned-all}
 use Rattle.layout.proofs.plan.shrunk.Statement.{statement}
 use Rattle.layout.proofs.plan.shrunk.Tie as tie
 

@@ -4,8 +4,8 @@ use mathlib.Core.Path.{_≡_, sym, _∙_}
 use mathlib.Core.List.{map}
 use lib.ListN.{length, length-map, List·getD-map}
 use Rattle.layout.specs.Plan.{thinned}
-use Rattle.layout.proofs.Fronts.{pastSets}
-use Rattle.layout.proofs.Storing.{Stored, stored-whole, stored-more, stored-all}
+use Rattle.layout.proofs.Take.{pastSets}
+use Rattle.layout.proofs.Stored.{Stored, stored-whole, stored-more, stored-all}
 use Rattle.layout.proofs.plan.thin_sets.Statement.{statement}
 use Rattle.layout.proofs.plan.thin_sets.Tie as tie
 

@@ -4,7 +4,7 @@ use mathlib.Core.Path.{_≡_, refl, sym, _∙_}
 use mathlib.Core.Bool.{_&&_}
 use lib.ListN.{length, take, drop, length-map}
 use Rattle.layout.specs.Plan.{goodChains, goodWish}
-use Rattle.layout.proofs.Thinning.{wish-more, wish-all}
+use Rattle.layout.proofs.GoodChains.{wish-more, wish-all}
 use Rattle.layout.proofs.plan.wish_is_good.Statement.{statement}
 use Rattle.layout.proofs.plan.wish_is_good.Tie as tie
 

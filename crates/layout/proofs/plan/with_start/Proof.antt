@@ -4,12 +4,13 @@ use mathlib.Core.Bool.{true}
 use mathlib.Core.Path.{_≡_, sym, ap, _∙_}
 use lib.Dec.{leb}
 use lib.ListN.{length}
+use Rattle.num.specs.declared.Position.{Position}
 use Rattle.num.specs.Limits.{limit}
 use Rattle.num.proofs.Tests.{or-false}
 use Rattle.layout.specs.Value.{layOf}
 use Rattle.layout.specs.Plan.{startAt, isOpen}
 use borrow.Author.Tests.{not-true, not-false, leb-false}
-use Rattle.layout.proofs.Starting.{open-many, started-same, started-spent, started-set}
+use Rattle.layout.proofs.StartedAt.{open-many, started-same, started-spent, started-set}
 use Rattle.layout.proofs.plan.with_start.Statement.{statement}
 use Rattle.layout.proofs.plan.with_start.Tie as tie
 
@@ -24,7 +25,7 @@ has-open-requires : tie.Need-has-open-requires
 has-open-requires c κs = tt
 
 returns : tie.Need-returns
-returns c = started-same _ _ (sym (c .before .has-open .ensures) ∙ not-true _ (c .if1 .taken))
+returns c = started-same _ _ (sym (c .before .before .has-open .ensures) ∙ not-true _ (c .before .if1 .taken))
 
 range-total-requires : tie.Need-range-total-requires
 range-total-requires c κs = tt
@@ -44,8 +45,8 @@ blank-requires c κs = tt
 returns-2 : tie.Need-returns-2
 returns-2 c = let s = c .before .before .before in started-spent _ _ (s .start-at .result) (opened (s .before .before)) (before-last s) _ (c .before .if2 .taken) (c .blank .ensures)
 
-add-larger : tie.Need-add-larger
-add-larger c = omega (arith, leb-false (limit - 1) (c .before .before .start-at .result) (or-false (leb limit (c .before .before .before .before .before .before .args .edge .0)) (leb (limit - 1) (c .before .before .start-at .result)) (c .if2 .left) .1))
+add-above : tie.Need-add-above
+add-above c = omega (arith, leb-false (limit - 1) (c .before .before .start-at .result) (or-false (leb limit (c .before .before .before .before .before .before .args .edges .edge .0)) (leb (limit - 1) (c .before .before .start-at .result)) (c .if2 .left) .1))
 
 larger-requires : tie.Need-larger-requires
 larger-requires c κs = tt
@@ -59,7 +60,7 @@ set-start-requires c κs = omega arith
 returns-3 : tie.Need-returns-3
 returns-3 c =
     let s = c .before .before .before .before in
-    started-set _ _ (s .start-at .result) (opened (s .before .before)) (before-last s) _ _ _ (c .before .before .if2 .left) (ap (λ n. n - 1) (s .before .range-total .ensures .0)) (c .before .larger .ensures) (c .set-start .ensures)
+    started-set _ _ (s .start-at .result) (opened (s .before .before)) (before-last s) _ _ _ (c .before .before .if2 .left) (ap (λ n. n - 1) (s .before .range-total .ensures .0)) (ap (λ (p : Position). p .0) (c .before .larger .ensures)) (c .set-start .ensures)
 
 pub with-start-spec : {M : Type 1} → statement M
 with-start-spec =
@@ -73,7 +74,7 @@ with-start-spec =
     sub-if2
     blank-requires
     returns-2
-    add-larger
+    add-above
     larger-requires
     sub-set-start
     set-start-requires

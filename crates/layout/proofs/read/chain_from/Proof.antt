@@ -1,4 +1,4 @@
-use Rattle.layout.proofs.Parsing.{chain-read}
+use Rattle.layout.proofs.SetsAt.{chain-read}
 use borrow.Author.Needs.{needs}
 use Rattle.layout.proofs.read.chain_from.Statement.{statement}
 use Rattle.layout.proofs.read.chain_from.Tie as tie

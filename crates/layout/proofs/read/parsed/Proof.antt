@@ -1,6 +1,7 @@
 use Prim.Native.Nat.{_+_}
 use mathlib.Core.Path.{refl, _∙_}
-use Rattle.layout.proofs.Parsing.{number-below, parsed-is}
+use Rattle.num.proofs.Numbers.{number-below}
+use Rattle.layout.proofs.Decode.{parsed-is}
 use borrow.Author.Needs.{needs}
 use Rattle.layout.proofs.read.parsed.Statement.{statement}
 use Rattle.layout.proofs.read.parsed.Tie as tie

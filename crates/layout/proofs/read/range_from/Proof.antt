@@ -1,4 +1,4 @@
-use Rattle.layout.proofs.Parsing.{range-read}
+use Rattle.layout.proofs.SpansAt.{range-read}
 use borrow.Author.Needs.{needs}
 use Rattle.layout.proofs.read.range_from.Statement.{statement}
 use Rattle.layout.proofs.read.range_from.Tie as tie

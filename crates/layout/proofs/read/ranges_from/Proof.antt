@@ -1,6 +1,6 @@
 use Prim.Native.Nat.{_-_}
 use native.Mathlib.Omega.{arith}
-use Rattle.layout.proofs.Parsing.{SpansReading, spans-none, spans-more, spans-all}
+use Rattle.layout.proofs.SpansAt.{SpansReading, spans-none, spans-more, spans-all}
 use Rattle.layout.proofs.read.ranges_from.Statement.{statement}
 use Rattle.layout.proofs.read.ranges_from.Tie as tie
 

@@ -1,4 +1,4 @@
-use Rattle.layout.proofs.Writing.{holds, read}
+use Rattle.layout.proofs.LayoutWritten.{holds, read}
 use borrow.Author.Needs.{needs}
 use Rattle.layout.proofs.read.read_layout.Statement.{statement}
 use Rattle.layout.proofs.read.read_layout.Tie as tie

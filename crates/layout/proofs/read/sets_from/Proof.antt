@@ -1,6 +1,6 @@
 use Prim.Native.Nat.{_-_}
 use native.Mathlib.Omega.{arith}
-use Rattle.layout.proofs.Parsing.{SetsReading, sets-none, sets-more, sets-all}
+use Rattle.layout.proofs.SetsAt.{SetsReading, sets-none, sets-more, sets-all}
 use Rattle.layout.proofs.read.sets_from.Statement.{statement}
 use Rattle.layout.proofs.read.sets_from.Tie as tie
 

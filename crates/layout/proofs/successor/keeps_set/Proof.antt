@@ -5,7 +5,7 @@ use lib.Dec.{leb}
 use lib.ListN.{length, length-map}
 use lib.Seq.{length-take-le}
 use Rattle.layout.specs.Successor.{sublist}
-use Rattle.layout.proofs.Fronts.{clipped, clipped-count}
+use Rattle.layout.proofs.Take.{clipped, clipped-count}
 use Rattle.layout.proofs.successor.keeps_set.Statement.{statement}
 use Rattle.layout.proofs.successor.keeps_set.Tie as tie
 

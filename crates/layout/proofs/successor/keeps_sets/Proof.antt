@@ -4,9 +4,9 @@ use mathlib.Core.Bool.{_&&_}
 use mathlib.Core.Path.{_≡_, refl, sym, _∙_}
 use lib.ListN.{length, drop, length-map}
 use Rattle.layout.specs.Value.{layOf, unitsIn}
-use Rattle.layout.proofs.Fronts.{pastSets}
+use Rattle.layout.proofs.Take.{pastSets}
+use Rattle.layout.proofs.Keeps.{paired-more, paired-sets, sets-all}
 use Rattle.layout.specs.Successor.{keepsSets}
-use Rattle.layout.proofs.Following.{paired-more, paired-sets, sets-all}
 use Rattle.layout.proofs.successor.keeps_sets.Statement.{statement}
 use Rattle.layout.proofs.successor.keeps_sets.Tie as tie
 

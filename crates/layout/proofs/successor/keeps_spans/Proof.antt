@@ -5,7 +5,7 @@ use mathlib.Core.Path.{_≡_, refl, _∙_}
 use lib.ListN.{length, drop, length-map}
 use Rattle.layout.specs.Value.{layOf, spanIn, noRange}
 use Rattle.layout.specs.Successor.{keepsSpans}
-use Rattle.layout.proofs.Following.{paired-more, paired-spans, spans-all}
+use Rattle.layout.proofs.Keeps.{paired-more, paired-spans, spans-all}
 use Rattle.layout.proofs.successor.keeps_spans.Statement.{statement}
 use Rattle.layout.proofs.successor.keeps_spans.Tie as tie
 

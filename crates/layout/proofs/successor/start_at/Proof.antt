@@ -2,7 +2,7 @@ use native.Mathlib.Omega.{arith}
 use mathlib.Core.Path.{_≡_, ap}
 use lib.ListN.{length, length-map}
 use Rattle.layout.specs.Value.{layOf, spanIn, noRange}
-use Rattle.layout.proofs.Fronts.{front-at, front-past}
+use Rattle.layout.proofs.Take.{front-at, front-past}
 use Rattle.layout.proofs.successor.start_at.Statement.{statement}
 use Rattle.layout.proofs.successor.start_at.Tie as tie
 

@@ -3,7 +3,7 @@ use mathlib.Core.Path.{refl}
 use mathlib.Core.Logic.{⊎-elim}
 use native.Mathlib.Omega.{arith}
 use lib.ListN.{length}
-use Rattle.layout.proofs.Following.{Matched, matched-next, matched-skip, matched-done, matched-all}
+use Rattle.layout.proofs.Sublist.{Matched, matched-next, matched-skip, matched-done, matched-all}
 use Rattle.layout.proofs.successor.sublist.Statement.{statement}
 use Rattle.layout.proofs.successor.sublist.Tie as tie
 

@@ -3,7 +3,7 @@ use native.Mathlib.Omega.{arith}
 use mathlib.Core.Path.{_≡_}
 use lib.ListN.{length, length-map}
 use Rattle.layout.specs.Codec.{sizeLimit}
-use Rattle.layout.proofs.Same.{Copying, copy-none, copy-more, copy-all}
+use Rattle.layout.proofs.Stored.{Copying, copy-none, copy-more, copy-all}
 use Rattle.layout.proofs.write.copy_front.Statement.{statement}
 use Rattle.layout.proofs.write.copy_front.Tie as tie
 

@@ -1,4 +1,4 @@
-use Rattle.layout.proofs.Writing.{holds, copy-fits, written}
+use Rattle.layout.proofs.LayoutWritten.{holds, copy-fits, written}
 use borrow.Author.Needs.{needs}
 use Rattle.layout.proofs.write.write_layout.Statement.{statement}
 use Rattle.layout.proofs.write.write_layout.Tie as tie

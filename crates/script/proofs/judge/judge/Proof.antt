@@ -6,7 +6,7 @@ use borrow.Author.Tests.{ltb-false}
 use lib.Dec.{ltb}
 use lib.ListN.{length, take, drop}
 use Rattle.num.proofs.Tests.{or-false}
-use Rattle.layout.proofs.Parsing.{number-below}
+use Rattle.num.proofs.Numbers.{number-below}
 use Rattle.script.specs.Play.{playLimit}
 use Rattle.script.proofs.Judging.{judged-short, judged-none, judged-play}
 use borrow.Author.Needs.{needs}

@@ -4,8 +4,8 @@ use mathlib.Core.Path.{_≡_, refl, sym, _∙_}
 use lib.ListN.{length, drop}
 use Rattle.layout.specs.Value.{padded}
 use Rattle.layout.specs.Codec.{setFront}
-use Rattle.layout.proofs.Padding.{length-padded}
-use Rattle.layout.proofs.Same.{Copying, copy-none, copy-more}
+use Rattle.layout.proofs.Padded.{length-padded}
+use Rattle.layout.proofs.Stored.{Copying, copy-none, copy-more}
 use Rattle.script.proofs.Copying.{copied-byte, copied}
 use Rattle.script.proofs.step.copy_counted.Statement.{statement}
 use Rattle.script.proofs.step.copy_counted.Tie as tie

@@ -1,12 +1,13 @@
 -- `memory::slots_good` meets its contract. The invariant and its steps are `Checking`'s `Checked`.
-use mathlib.Core.Path.{_≡_, ap, _∙_}
+use mathlib.Core.Path.{_≡_, refl, ap, _∙_}
 use borrow.Author.Needs.{needs}
 use native.Mathlib.Omega.{arith}
-use Prim.Native.Nat.{_+_, _≤_}
+use Prim.Native.Nat.{_+_, _^_, _<_, _≤_}
 use lib.ListN.{length}
 use Rattle.unit.specs.Shape.{slotSize}
 use Rattle.unit.proofs.Words.{ruler-length}
 use Rattle.unit.proofs.Checking.{Checked, checked-none, checked-room, checked-more, checked-all}
+use Rattle.unit.proofs.Tags.{turned-fits}
 use Rattle.unit.proofs.memory.slots_good.Statement.{statement}
 use Rattle.unit.proofs.memory.slots_good.Tie as tie
 use Rattle.unit.proofs.memory.slots_good.Reads as reads
@@ -15,7 +16,7 @@ use Rattle.std.proofs.num.wrapping_add_u64.Reads as wrapping-add-u64-reads
 use Rattle.std.proofs.num.wrapping_sub_u64.Reads as wrapping-sub-u64-reads
 use Rattle.unit.proofs.field.zeros_at.Reads as zeros-at-reads
 use Rattle.unit.proofs.memory.fault.Reads as fault-reads
-use Rattle.unit.proofs.memory.good_tag.Reads as good-tag-reads
+use Rattle.unit.proofs.memory.tag_fault.Reads as tag-fault-reads
 use Rattle.unit.proofs.memory.masked.Reads as masked-reads
 use Rattle.unit.proofs.memory.joined.Reads as joined-reads
 use Rattle.unit.proofs.memory.length_of.Reads as length-of-reads
@@ -33,6 +34,10 @@ ruled c = ap length (c .pre .2) ∙ ruler-length
 -- the slot of a turn lies within the memory
 room : (c : tie.In-loop Inv-loop μ-loop) → c .before .loop .at + slotSize (c .before .before .before .before .args .cap) ≤ length (c .before .before .before .before .args .mem .now)
 room c = checked-room (c .before .loop .inv) (omega arith)
+
+-- and its end is a number that the code can count
+past : (c : tie.In-loop Inv-loop μ-loop) → c .before .loop .at + slotSize (c .before .before .before .before .args .cap) < 2 ^ 64
+past c = omega (arith, room c)
 
 loop-holds : tie.Need-loop-holds Inv-loop μ-loop
 loop-holds c = checked-none _ _ _ _ (omega arith) (omega arith)
@@ -52,8 +57,14 @@ word-at-requires-2 c κs = omega (arith, room (c .before .before))
 wrapping-sub-u64-requires : tie.Need-wrapping-sub-u64-requires Inv-loop μ-loop
 wrapping-sub-u64-requires c κs = search needs
 
+mul-turn : tie.Need-mul-turn Inv-loop μ-loop
+mul-turn c = search needs
+
+add-turn : tie.Need-add-turn Inv-loop μ-loop
+add-turn c = record { fits = turned-fits _ (omega arith) }
+
 length-of-requires : tie.Need-length-of-requires Inv-loop μ-loop
-length-of-requires c κs = c .wrapping-sub-u64 .ensures
+length-of-requires c κs = (c .wrapping-sub-u64 .ensures, refl)
 
 sub-k : tie.Need-sub-k Inv-loop μ-loop
 sub-k c = omega arith
@@ -72,14 +83,17 @@ joined-requires c κs =
     let p = c .before .before .before .before .before .before .before .before .before .pre in
     (omega (arith, room (c .before .before .before .before .before)), p .2, omega arith, omega arith, omega arith)
 
-good-tag-requires : tie.Need-good-tag-requires Inv-loop μ-loop
-good-tag-requires c κs = (omega arith, c .before .before .wrapping-sub-u64 .ensures)
-
 fault-requires : tie.Need-fault-requires Inv-loop μ-loop
 fault-requires c κs = search needs
 
 add-faults : tie.Need-add-faults Inv-loop μ-loop
 add-faults c = omega arith
+
+tag-fault-requires : tie.Need-tag-fault-requires Inv-loop μ-loop
+tag-fault-requires c κs = (omega arith, c .before .before .before .wrapping-sub-u64 .ensures, refl)
+
+add-faults-2 : tie.Need-add-faults-2 Inv-loop μ-loop
+add-faults-2 c = omega arith
 
 add-masked : tie.Need-add-masked Inv-loop μ-loop
 add-masked c = omega (arith, room (c .before .before .before .before .before .before .before .before))
@@ -118,7 +132,7 @@ add-at : tie.Need-add-at Inv-loop μ-loop
 add-at c = omega (arith, room (c .before .before .before .before .before .before .before .before .before .before .before .before))
 
 add-at-2 : tie.Need-add-at-2 Inv-loop μ-loop
-add-at-2 c = omega (arith, room (c .before .before .before .before .before .before .before .before .before .before .before .before))
+add-at-2 c = omega (arith, past (c .before .before .before .before .before .before .before .before .before .before .before .before))
 
 sub-left : tie.Need-sub-left Inv-loop μ-loop
 sub-left c = omega arith
@@ -133,10 +147,10 @@ loop-again c =
     let w = n .before .before in
     let l = w .before .before .before .before in
     let s = l .before .before .before in
-    checked-more (l .loop .inv) (omega arith) (s .pre .3) (s .pre .4) (l .before .before .shared-slice-known .given) _ (s .pre .2) _ _ _ _ _ _ _ _ _
-    (f .before .before .joined .result) _ (omega arith)
+    checked-more (l .loop .inv) (omega arith) (s .pre .3) (s .pre .4) (l .before .before .shared-slice-known .given) _ (s .pre .2) _ _ _ _ _ _ _ _ _ _
+    (f .before .before .joined .result) (omega arith)
     (w .before .before .word-at .ensures) (w .before .wrapping-add-u64 .ensures) (w .word-at2 .ensures)
-    (n .length-of .ensures .0) (n .length-of .ensures .1) (f .before .good-tag .ensures) (f .fault .ensures .0) (f .fault .ensures .1)
+    (n .length-of .ensures .0) (n .length-of .ensures .1) (f .tag-fault .ensures .0) (f .tag-fault .ensures .1) (f .before .fault .ensures .0) (f .before .fault .ensures .1)
     (c .before .before .before .masked .ensures) (c .before .before .masked2 .ensures) (c .before .masked3 .ensures) (c .masked4 .ensures)
     (f .before .before .joined .ensures)
 
@@ -161,15 +175,18 @@ slots-good-spec =
     add-word-at
     word-at-requires-2
     wrapping-sub-u64-requires
+    mul-turn
+    add-turn
     length-of-requires
     sub-k
     add-joined
     sub-joined
     add-joined-2
     joined-requires
-    good-tag-requires
     fault-requires
     add-faults
+    tag-fault-requires
+    add-faults-2
     add-masked
     masked-requires
     add-masked-2

@@ -87,23 +87,23 @@ chosen-spec =
     (tie.spec
     enum-known-s
     begins-requires
+    returns
     enum-known-s-2
     delivers-requires
-    enum-known-s-3
-    drops-requires
-    enum-known-s-4
-    stops-requires
-    enum-known-s-5
-    restarts-requires
-    enum-known-s-6
-    gives-up-requires
-    enum-told
-    forgets-requires
-    returns
     same-length
     returns-2
+    enum-known-s-3
+    drops-requires
     returns-3
+    enum-known-s-4
+    stops-requires
     returns-4
+    enum-known-s-5
+    restarts-requires
     returns-5
+    enum-known-s-6
+    gives-up-requires
     returns-6
+    enum-told
+    forgets-requires
     returns-7)

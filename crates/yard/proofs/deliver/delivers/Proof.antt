@@ -60,11 +60,11 @@ delivers-spec =
     returns
     enum-told
     refused-requires-2
+    returns-2
     enum-known-body
     hands-requires
-    enum-known-body-2
-    returns-to-requires
-    returns-2
     same-length
     returns-3
+    enum-known-body-2
+    returns-to-requires
     returns-4)

@@ -76,18 +76,18 @@ serve-spec =
     fetch-requires
     fetching-requires
     beside-requires
+    returns
     enum-known-ask
     asking-requires
+    returns-2
     enum-known-ask-2
     at-unit-requires
     beside-requires-2
-    enum-told-2
-    offering-requires
-    enum-known-ask-3
-    asking-requires-2
-    returns
-    returns-2
     same-length
     returns-3
+    enum-told-2
+    offering-requires
     returns-4
+    enum-known-ask-3
+    asking-requires-2
     returns-5)

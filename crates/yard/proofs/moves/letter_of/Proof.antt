@@ -35,10 +35,10 @@ letter-of-spec =
     (tie.spec
     enum-told
     blank-requires
+    returns
     enum-known-act
     request-requires
+    returns-2
     enum-told-2
     blank-requires-2
-    returns
-    returns-2
     returns-3)

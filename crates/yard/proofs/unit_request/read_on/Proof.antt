@@ -5,7 +5,7 @@ use Rattle.unit.specs.Unit.Request.{read}
 use native.Mathlib.Omega.{arith}
 use borrow.Author.Tests.{eq-eqb, ne-eqb}
 use lib.ListN.{length}
-use Rattle.rule.specs.Serve.{shown, pageOf, bare}
+use Rattle.rule.specs.Serve.{pageShown, pageOf, bare}
 use Rattle.yard.proofs.Doing.{does, tells, payload-short}
 use Rattle.yard.proofs.unit_request.read_on.Statement.{statement}
 use Rattle.yard.proofs.unit_request.read_on.Tie as tie
@@ -17,7 +17,7 @@ bare-requires : tie.Need-bare-requires
 bare-requires c κs = search needs
 
 returns : tie.Need-returns
-unfolding shown
+unfolding pageShown
 returns c =
     let a = c .before .before .before .before .before .args in
     let b = c .before .before .before .before .shared-slice-known .given in
@@ -37,7 +37,7 @@ blank-requires : tie.Need-blank-requires
 blank-requires c κs = search needs
 
 returns-2 : tie.Need-returns-2
-unfolding shown pageOf
+unfolding pageShown pageOf
 returns-2 c =
     let a = c .before .before .before .before .before .before .before .args in
     let b = c .before .before .before .before .before .before .shared-slice-known .given in

@@ -2,7 +2,7 @@ use borrow.Author.Needs.{needs}
 use mathlib.Core.Path.{_≡_, ap, _∙_}
 use Rattle.rule.specs.Serve.{saying, bare}
 use Rattle.client.specs.declared.Reply.{Reply}
-use Rattle.rule.specs.Serve.{edgeOr, edged, saying, bare}
+use Rattle.rule.specs.Serve.{edgesOr, edged, saying, bare}
 use native.Mathlib.Omega.{arith}
 use borrow.Author.Tests.{le-leb}
 use Rattle.num.specs.Limits.{lastEpoch}
@@ -15,8 +15,8 @@ use Rattle.yard.proofs.unit_request.seal_on.Tie as tie
 seal-requires : tie.Need-seal-requires
 seal-requires c κs = search needs
 
-edge-or-requires : tie.Need-edge-or-requires
-edge-or-requires c κs = search needs
+edges-or-requires : tie.Need-edges-or-requires
+edges-or-requires c κs = search needs
 
 bare-requires : tie.Need-bare-requires
 bare-requires c κs = search needs
@@ -31,9 +31,9 @@ returns c =
     let bytes = c .before .before .before .before .before .before .slice-known .given in
     let w = c .before .before .before .before .seal .ensures in
     let d = does (s .args .mem .now) bytes (s .pre) (le-leb (s .args .epoch .0) lastEpoch (omega arith)) (w .answered) (c .before .before .slice-known2 .given) in
-    let e = w .edge-is ∙ ap (λ (t : Report). t .edge) (tells (s .args .mem .now) bytes (s .pre) (seal (s .args .epoch))) in
-    record { response-is = c .bare .ensures ∙ ap bare (c .before .edge-or .ensures ∙ rw (e, d .says)); memory-is = d .becomes }
+    let e = w .edges-is ∙ ap (λ (t : Report). t .edges) (tells (s .args .mem .now) bytes (s .pre) (seal (s .args .epoch))) in
+    record { response-is = c .bare .ensures ∙ ap bare (c .before .edges-or .ensures ∙ rw (e, d .says)); memory-is = d .becomes }
 
 pub seal-on-spec : {M : Type 1} → statement M
 seal-on-spec =
-    tie.close (tie.spec seal-requires edge-or-requires bare-requires same-length returns)
+    tie.close (tie.spec seal-requires edges-or-requires bare-requires same-length returns)

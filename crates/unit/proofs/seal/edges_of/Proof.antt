@@ -1,0 +1,11 @@
+use Rattle.unit.proofs.seal.edges_of.Statement.{statement}
+use Rattle.unit.proofs.seal.edges_of.Tie as tie
+
+edge-of-requires : tie.Need-edge-of-requires
+edge-of-requires c κs = c .before .pre
+
+returns : tie.Need-returns
+returns c = rw (c .edge-of .ensures)
+
+pub edges-of-spec : {M : Type 1} → statement M
+edges-of-spec = tie.close (tie.spec edge-of-requires returns)
