@@ -253,15 +253,15 @@ static void read_empty(const struct box *box, uint32_t epoch, uint64_t position,
 
 static void seal(struct box *box, uint32_t epoch)
 {
-    uint64_t edge = 99;
+    uint64_t edge = 99, written = 99;
     char what[64];
-    uint8_t answer = unit_seal(box->mem, STATION_MEMORY, epoch, &edge);
+    uint8_t answer = unit_seal(box->mem, STATION_MEMORY, epoch, &edge, &written);
     snprintf(what, sizeof what, "seal epoch %" PRIu32, epoch);
     changed(box, what, answer);
     if (answer == UNIT_ANSWER_FINE)
-        printf("      the edge is %" PRIu64 "\n", edge);
-    else if (edge != 99)
-        stop("a refused seal changed the edge");
+        printf("      the edge is %" PRIu64 ", the written edge %" PRIu64 "\n", edge, written);
+    else if (edge != 99 || written != 99)
+        stop("a refused seal changed an edge");
 }
 
 /* ---- the parts of the account */
@@ -323,12 +323,12 @@ static void sealing(struct box *box)
 static void bad_memories(const struct box *box)
 {
     struct box bad = *box;
-    uint64_t edge = 99;
-    tell("seal 6167 of the bytes", unit_seal(bad.mem, STATION_MEMORY - 1, 2, &edge));
+    uint64_t edge = 99, written = 99;
+    tell("seal 6167 of the bytes", unit_seal(bad.mem, STATION_MEMORY - 1, 2, &edge, &written));
     bad.mem[STATION_MEMORY - 1] = 1;
-    tell("seal with a stray byte in an unused slot", unit_seal(bad.mem, STATION_MEMORY, 2, &edge));
+    tell("seal with a stray byte in an unused slot", unit_seal(bad.mem, STATION_MEMORY, 2, &edge, &written));
     bad.mem[STATION_MEMORY - 1] = 0;
-    if (edge != 99 || memcmp(bad.mem, box->mem, STATION_MEMORY) != 0)
+    if (edge != 99 || written != 99 || memcmp(bad.mem, box->mem, STATION_MEMORY) != 0)
         stop("a bad memory was changed");
 }
 

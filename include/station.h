@@ -17,13 +17,13 @@
  * demo/box.c shows how).
  *
  * Every call answers one number of enum unit_answer. Of several that apply it is the lowest. A call that answers anything
- * but UNIT_ANSWER_FINE has changed nothing: no byte of mem, and *kind, *start, *length and *edge keep what they held.
+ * but UNIT_ANSWER_FINE has changed nothing: no byte of mem, nor what *kind, *start, *length, *edge and *written hold.
  *
  * For every call:
  *   - mem points to len bytes. With any other len than STATION_MEMORY the answer is UNIT_ANSWER_MEMORY, so a wrong length
  *     is refused and not read past. The whole memory is checked each time, before anything else is looked at.
  *   - No pointer may be NULL, data neither when data_len is 0: then point it to anything.
- *   - data, kind, start, length and edge lie outside mem, and apart from each other.
+ *   - data, kind, start, length, edge and written lie outside mem, and apart from each other.
  *   - Nothing is locked: while a call runs, nobody else may touch mem.
  *   - No call takes more than 512 bytes of stack (docs/SPEED.md). unit_fresh and unit_prune call memset, unit_write and
  *     unit_trim memmove: on a small stack link these statically or with -z now, since a loader that binds one at its first
@@ -105,7 +105,8 @@ uint8_t unit_read(const uint8_t *mem, size_t len, uint32_t epoch, uint64_t posit
 
 /*
  * Trims one position: its page, if any, is erased, and nothing can be written there any more. A slot stays in use for it
- * until a prune passes it. Trimming a trimmed position is fine and changes nothing.
+ * until a prune passes it: of kind 3 where there was a page, of kind 4 where nothing was ever written, which leaves the
+ * written edge as it was. Trimming a trimmed position is fine and changes nothing.
  * Answers: FINE, MEMORY, POSITION, SEALED, FULL.
  */
 uint8_t unit_trim(uint8_t *mem, size_t len, uint32_t epoch, uint64_t position);
@@ -119,10 +120,12 @@ uint8_t unit_prune(uint8_t *mem, size_t len, uint32_t epoch, uint64_t position);
 
 /*
  * Seals an epoch: from now on calls of that epoch or an earlier one are refused with SEALED. When FINE, *edge is the first
- * position above everything that was ever written, trimmed or pruned here. Sealing the same epoch again is fine.
+ * position above everything that was ever written, trimmed or pruned here, and *written the same without the positions
+ * that were trimmed and never written: a new range starts at the edges or above, and without one the sequencer goes on
+ * at the written edge. Sealing the same epoch again is fine.
  * Answers: FINE, MEMORY, SEALED.
  */
-uint8_t unit_seal(uint8_t *mem, size_t len, uint32_t epoch, uint64_t *edge);
+uint8_t unit_seal(uint8_t *mem, size_t len, uint32_t epoch, uint64_t *edge, uint64_t *written);
 
 #ifdef __cplusplus
 }

@@ -84,7 +84,8 @@ impl Call {
             }),
             Call::Seal { epoch } => Box::new(move |mem| {
                 let mut outputs = Outputs::UNTOUCHED;
-                let answer = (side.seal)(mem, black_box(epoch), &mut outputs.edge);
+                let Outputs { edge, written, .. } = &mut outputs;
+                let answer = (side.seal)(mem, black_box(epoch), edge, written);
                 Seen { answer, outputs }
             }),
         }

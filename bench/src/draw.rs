@@ -38,10 +38,11 @@ pub fn memory<const SLOT: usize>(random: &mut Random) -> Vec<u8> {
     let mut cells = BTreeMap::new();
     let mut position = floor + random.below(gaps);
     while (cells.len() as u64) < most && position < POSITIONS {
-        let cell = match random.one_of(&[1, 1, 1, 1, 2, 3]) {
+        let cell = match random.one_of(&[1, 1, 1, 1, 2, 3, 4]) {
             1 => Cell::data(&data::<SLOT>(random)),
             2 => Cell::JUNK,
-            _ => Cell::Trimmed,
+            3 => Cell::Trimmed,
+            _ => Cell::Stray,
         };
         cells.insert(position, cell);
         position += 1 + random.below(gaps);

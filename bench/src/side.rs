@@ -13,7 +13,7 @@ pub struct Side {
     pub read: fn(&[u8], u32, u64, &mut u8, &mut u64, &mut u64) -> u8,
     pub trim: fn(&mut [u8], u32, u64) -> u8,
     pub prune: fn(&mut [u8], u32, u64) -> u8,
-    pub seal: fn(&mut [u8], u32, &mut u64) -> u8,
+    pub seal: fn(&mut [u8], u32, &mut u64, &mut u64) -> u8,
 }
 
 const OURS: Side = Side {
@@ -54,9 +54,9 @@ impl<V: Version<SMALL> + Version<LARGE>> Either<V> {
         prune(mem, epoch, position)
     }
 
-    fn seal(mem: &mut [u8], epoch: u32, edge: &mut u64) -> u8 {
+    fn seal(mem: &mut [u8], epoch: u32, edge: &mut u64, written: &mut u64) -> u8 {
         let seal = if large(mem) { unit::seal::<V, LARGE> } else { unit::seal::<V, SMALL> };
-        seal(mem, epoch, edge)
+        seal(mem, epoch, edge, written)
     }
 
     const fn side(name: &'static str) -> Side {

@@ -45,7 +45,7 @@ impl Faults {
         let tag = u64_at(slot, 8);
         // the length of data, and something large for every other tag
         let length = tag.wrapping_sub(1).rotate_right(8);
-        let good = (length <= page(SLOT) as u64) | (tag & !1 == 2);
+        let good = (length <= page(SLOT) as u64) | (2..=4).contains(&tag);
         self.fields += u32::from(!(good & (self.last < position)));
         self.last = position;
         let rows: &'static Rows<SLOT> = &Rows::PAST;

@@ -61,6 +61,21 @@ pub fn u64_at(bytes: &[u8], at: usize) -> u64 {
     u64::from_le_bytes(bytes[at..at + 8].try_into().unwrap())
 }
 
+/// The kind of a slot that is trimmed and was never written.
+pub const STRAY: u8 = 4;
+
+/// Whether a slot of this kind is trimmed.
+fn gone(kind: u8) -> bool {
+    kind == 3 || kind == STRAY
+}
+
+/// The first position above the floor and all slots that were written: the stray ones at the end are passed over.
+fn written<const SLOT: usize>(mem: &[u8], header: &Header) -> u64 {
+    let used = &mem[HEADER..HEADER + header.count * SLOT];
+    let last = used.rchunks_exact(SLOT).find(|slot| slot[8] != STRAY);
+    last.map_or(header.floor, |slot| u64_at(slot, 0) + 1)
+}
+
 /// Where the slot of a position stands or would stand, and its kind where there is one.
 fn find<V: Version<SLOT>, const SLOT: usize>(mem: &[u8], header: &Header, position: u64) -> (usize, Option<u8>) {
     let before = V::place(mem, header, position);
@@ -100,7 +115,7 @@ pub fn write<V: Version<SLOT>, const SLOT: usize>(
         return 4;
     }
     let (at, held) = find::<V, SLOT>(mem, &header, position);
-    if position < header.floor || held == Some(3) {
+    if position < header.floor || held.is_some_and(gone) {
         return 5;
     }
     if held.is_some() {
@@ -129,7 +144,7 @@ pub fn read<V: Version<SLOT>, const SLOT: usize>(
         return 4;
     }
     let (at, held) = find::<V, SLOT>(mem, &header, position);
-    if position < header.floor || held == Some(3) {
+    if position < header.floor || held.is_some_and(gone) {
         return 5;
     }
     let Some(held) = held else { return 7 };
@@ -151,15 +166,17 @@ pub fn trim<V: Version<SLOT>, const SLOT: usize>(mem: &mut [u8], epoch: u32, pos
         return 0;
     }
     let (at, held) = find::<V, SLOT>(mem, &header, position);
-    if held.is_some() {
-        mem[at + 8..at + SLOT].fill(0);
-        mem[at + 8] = 3;
+    if let Some(held) = held {
+        if !gone(held) {
+            mem[at + 8..at + SLOT].fill(0);
+            mem[at + 8] = 3;
+        }
         return 0;
     }
     if header.count == slots(SLOT) {
         return 8;
     }
-    insert::<SLOT>(mem, at, &header, position, 3, &[]);
+    insert::<SLOT>(mem, at, &header, position, STRAY, &[]);
     0
 }
 
@@ -183,12 +200,13 @@ pub fn prune<V: Version<SLOT>, const SLOT: usize>(mem: &mut [u8], epoch: u32, po
     0
 }
 
-pub fn seal<V: Version<SLOT>, const SLOT: usize>(mem: &mut [u8], epoch: u32, edge: &mut u64) -> u8 {
+pub fn seal<V: Version<SLOT>, const SLOT: usize>(mem: &mut [u8], epoch: u32, edge: &mut u64, to: &mut u64) -> u8 {
     let Some(header) = V::check(mem) else { return 1 };
     if epoch < header.sealed {
         return 4;
     }
     mem[4..8].copy_from_slice(&epoch.to_le_bytes());
     *edge = header.edge;
+    *to = written::<SLOT>(mem, &header);
     0
 }

@@ -10,7 +10,7 @@ fn zeros(bytes: &[u8]) -> bool {
 
 fn good_page(slot: &[u8]) -> bool {
     let (kind, length) = (slot[8], usize::from(slot[9]));
-    (1..=3).contains(&kind)
+    (1..=4).contains(&kind)
         & (length <= page(slot.len()))
         & (kind == 1 || length == 0)
         & zeros(&slot[10..PAYLOAD])

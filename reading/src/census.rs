@@ -2,7 +2,7 @@
 
 use crate::client::Job;
 use crate::run::Taken;
-use crate::unit::Page;
+use crate::unit::{Cell, Page};
 use crate::yard::{Ended, Step, Yard};
 use std::collections::BTreeMap;
 use std::fmt;
@@ -21,6 +21,8 @@ pub struct Census {
     letters: u64,
     most_letters: usize,
     most_slots: usize,
+    /// Slots that units have at the end, by what is in them.
+    slots: BTreeMap<&'static str, u64>,
     stopped: BTreeMap<usize, u64>,
     with_new_range: u64,
 }
@@ -45,6 +47,15 @@ fn job_name(job: &Job) -> &'static str {
         Job::Trim(_) => "trim",
         Job::Prune(_) => "prune",
         Job::Reorganise(_) => "reorganise",
+    }
+}
+
+fn cell_name(cell: &Cell) -> &'static str {
+    match cell {
+        Cell::Holds(Page::Data(_)) => "data",
+        Cell::Holds(Page::Junk) => "junk",
+        Cell::Trimmed => "trimmed",
+        Cell::Stray => "stray",
     }
 }
 
@@ -79,6 +90,9 @@ impl Census {
         *self.changes.entry(yard.held.epoch - first).or_default() += 1;
         *self.stopped.entry(yard.stopped.len()).or_default() += 1;
         self.with_new_range += u64::from(yard.held.ranges.len() > 2);
+        for cell in yard.units.iter().flat_map(|unit| unit.cells.values()) {
+            *self.slots.entry(cell_name(cell)).or_default() += 1;
+        }
         self.most_slots = self.most_slots.max(yard.units.iter().map(|unit| unit.cells.len()).max().unwrap_or(0));
     }
 }
@@ -102,6 +116,7 @@ impl fmt::Display for Census {
         writeln!(out, "layouts installed in a run (how many:runs):{}", counts(&self.changes))?;
         writeln!(out, "runs that end with more than two ranges: {}", self.with_new_range)?;
         writeln!(out, "units stopped at the end (how many:runs):{}", counts(&self.stopped))?;
+        writeln!(out, "slots of units at the end:{}", counts(&self.slots))?;
         let mean = self.letters / self.steps.max(1);
         writeln!(out, "letters in the bag: {mean} in the mean, {} at most; slots used in a unit: {} at most", self.most_letters, self.most_slots)
     }

@@ -48,6 +48,15 @@ fn fill_position(raw: &Raw, yard: &Yard, mood: &Mood, memo: &Memo) -> u64 {
     }
 }
 
+/// A trim's: now and then above the sequencer's count, where nothing was written, and rarely the log's last.
+fn trim_position(raw: &Raw, yard: &Yard, mood: &Mood, memo: &Memo) -> u64 {
+    match (raw.of(62, 4), raw.of(9, 16)) {
+        (0, 0) => LIMIT - 1,
+        (0, _) => (yard.sequencer.next + 1 + u64::from(raw.of(8, 8))).min(LIMIT - 1),
+        _ => position(raw, yard, mood, memo),
+    }
+}
+
 /// A prune's: smaller.
 fn prune_position(raw: &Raw, yard: &Yard, mood: &Mood) -> u64 {
     match raw.of(7, 16) {
@@ -118,7 +127,7 @@ pub fn draw_job(raw: &Raw, yard: &Yard, mood: &Mood, memo: &Memo) -> Job {
         0 => Job::Append(data(raw, yard)),
         1 => Job::Read(position(raw, yard, mood, memo)),
         2 => Job::Fill(fill_position(raw, yard, mood, memo)),
-        3 => Job::Trim(position(raw, yard, mood, memo)),
+        3 => Job::Trim(trim_position(raw, yard, mood, memo)),
         4 => Job::Prune(prune_position(raw, yard, mood)),
         _ => Job::Reorganise(Change { drops: drops(raw, yard), sets: new_sets(raw) }),
     }

@@ -51,10 +51,11 @@ impl Unit {
         self.call(Call::Prune { epoch: 1, position }).answer
     }
 
-    /// The answer of a seal, and the edge where there is one.
-    fn seal(&mut self, epoch: u32) -> (No, Option<u64>) {
+    /// The answer of a seal, and both edges where there are any.
+    fn seal(&mut self, epoch: u32) -> (No, Option<(u64, u64)>) {
         let after = self.call(Call::Seal { epoch });
-        (after.answer, Some(after.outputs.edge).filter(|edge| *edge != Outputs::UNTOUCHED.edge))
+        let told = (after.outputs.edge, after.outputs.written);
+        (after.answer, Some(told).filter(|told| *told != (Outputs::UNTOUCHED.edge, Outputs::UNTOUCHED.written)))
     }
 }
 
@@ -86,17 +87,17 @@ fn the_longest_page(unit: &mut Unit) {
 }
 
 fn sealing(unit: &mut Unit) {
-    assert_eq!(unit.seal(1), (0, Some(0)));
+    assert_eq!(unit.seal(1), (0, Some((0, 0))));
     assert_eq!(unit.write(1, 0, 1), 4);
     assert_eq!(unit.write(2, 0, 1), 0);
-    assert_eq!(unit.seal(1), (0, Some(1)));
+    assert_eq!(unit.seal(1), (0, Some((1, 1))));
     assert_eq!(unit.seal(0), (4, None));
 }
 
 fn trimming(unit: &mut Unit) {
     assert_eq!(unit.trim(5), 0);
     assert_eq!(unit.write(1, 5, 1), 5);
-    assert_eq!(unit.seal(1), (0, Some(6)));
+    assert_eq!(unit.seal(1), (0, Some((6, 0))));
 }
 
 fn a_full_unit(unit: &mut Unit) {
@@ -114,7 +115,7 @@ fn pruning(unit: &mut Unit) {
     assert_eq!(unit.prune(3), 0);
     assert_eq!(unit.prune(2), 0);
     assert_eq!(unit.memory[8..16], 3u64.to_le_bytes());
-    assert_eq!(unit.seal(1), (0, Some(3)));
+    assert_eq!(unit.seal(1), (0, Some((3, 3))));
 }
 
 /// In the order in which they are marked.

@@ -1,4 +1,5 @@
 //! Demand 3's last sentence, tried on a copy of the yard: an undisturbed reorganise ends in done, and then reads show what was appended.
+//! The sequencer's count is then the largest written edge of the units of the new layout.
 
 use crate::client::{Job, Outcome};
 use crate::demand::History;
@@ -60,6 +61,11 @@ pub fn holds(yard: &Yard, history: &History, client: u8, change: &Change) -> Res
     let outcome = undisturbed(&mut yard, client, Job::Reorganise(change.clone()), n + 3)?;
     if outcome.number != no::FINE {
         return Err(format!("the reorganise ended with {}", outcome.number));
+    }
+    let edges = yard.held.units().into_iter().map(|unit| yard.units[usize::from(unit) - 1].written_edge());
+    let written = edges.max().unwrap_or(0);
+    if yard.sequencer.next != written {
+        return Err(format!("the sequencer counts from {} and not from {written}", yard.sequencer.next));
     }
     for p in history.done_positions() {
         let mut after = yard.clone();

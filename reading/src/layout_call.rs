@@ -5,6 +5,7 @@ use crate::layout_bytes::{decode, decode_sets, encode};
 use crate::no::{self, number_of, unless, No, LIMIT};
 use crate::plan::{plan, Change};
 use crate::successor;
+use crate::unit::Edges;
 
 /// A call, with the numbers and bytes as C passes them.
 #[derive(Clone, PartialEq, Eq, Debug)]
@@ -56,7 +57,7 @@ fn planned(held: &[u8], drops: &[u8], sets: &[u8], edge: u64, room: usize) -> Re
     let held = decode(held).ok_or(no::LAYOUT)?;
     // bytes that are no sets are refused in the place of a bad set
     let sets = decode_sets(sets).unwrap_or_else(|| vec![Set::new()]);
-    let (layout, _) = plan(&held, &Change { drops: drops.to_vec(), sets })?.with_edge(edge)?;
+    let (layout, _) = plan(&held, &Change { drops: drops.to_vec(), sets })?.with_edges(Edges { edge, written: 0 })?;
     let bytes = encode(&layout);
     unless(bytes.len() > room, no::LAYOUT)?;
     Ok(bytes)

@@ -2,7 +2,7 @@
 
 use crate::layout::Layout;
 use crate::no::No;
-use crate::unit::Page;
+use crate::unit::{Edges, Page};
 
 /// A request bears client, life and number, and so does its answer.
 #[derive(Clone, Copy, Debug, PartialEq, Eq)]
@@ -51,7 +51,7 @@ pub enum Ask {
         position: u64,
     },
     /// No request of the rules: only a shortcut sends it.
-    EdgeOnly {
+    EdgesOnly {
         unit: u8,
     },
 }
@@ -65,7 +65,7 @@ impl Ask {
             | Ask::Trim { unit, .. }
             | Ask::Prune { unit, .. }
             | Ask::Seal { unit, .. }
-            | Ask::EdgeOnly { unit } => Some(*unit),
+            | Ask::EdgesOnly { unit } => Some(*unit),
             Ask::Fetch | Ask::Token { .. } | Ask::Offer { .. } | Ask::Start { .. } => None,
         }
     }
@@ -80,7 +80,7 @@ impl Ask {
             | Ask::Prune { epoch, .. }
             | Ask::Seal { epoch, .. }
             | Ask::Start { epoch, .. } => Some(*epoch),
-            Ask::Fetch | Ask::Offer { .. } | Ask::EdgeOnly { .. } => None,
+            Ask::Fetch | Ask::Offer { .. } | Ask::EdgesOnly { .. } => None,
         }
     }
 }
@@ -91,7 +91,7 @@ pub enum Reply {
     Given(u64),
     Fine,
     Shown(Page),
-    Edge(u64),
+    Edges(Edges),
     Refused(No),
 }
 

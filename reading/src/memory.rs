@@ -34,6 +34,7 @@ pub fn encode(unit: &Unit) -> Vec<u8> {
         let (kind, payload): (u8, &[u8]) = match cell {
             Cell::Holds(page) => (page.kind(), page.bytes()),
             Cell::Trimmed => (3, &[]),
+            Cell::Stray => (4, &[]),
         };
         memory.extend(position.to_le_bytes());
         memory.extend([kind, payload.len() as u8, 0, 0, 0, 0, 0, 0]);
@@ -64,6 +65,7 @@ fn slot(bytes: &[u8], shape: Shape) -> Option<(u64, Cell)> {
         1 => Some((position, Cell::data(&payload[..length]))),
         2 if length == 0 => Some((position, Cell::JUNK)),
         3 if length == 0 => Some((position, Cell::Trimmed)),
+        4 if length == 0 => Some((position, Cell::Stray)),
         _ => None,
     }
 }

@@ -7,7 +7,7 @@ use crate::no::{self, No, LIMIT};
 use crate::plan::{plan, Plan};
 use crate::shape::Shape;
 use crate::shortcut::Shortcut;
-use crate::unit::Page;
+use crate::unit::{Edges, Page};
 
 /// Units still to be asked after the one that is being asked.
 type Route = Vec<u8>;
@@ -45,7 +45,7 @@ pub enum Wait {
     },
     Seal {
         plan: Plan,
-        edge: u64,
+        edges: Edges,
         rest: Route,
     },
     Offer {
@@ -54,9 +54,9 @@ pub enum Wait {
     },
     Start,
     /// Shortcut: edges asked for before any seal.
-    Edge {
+    Edges {
         plan: Plan,
-        edge: u64,
+        edges: Edges,
         rest: Route,
     },
 }
@@ -157,11 +157,11 @@ impl Operation {
             (Wait::Trim { rest }, Reply::Fine) => self.trim(rest),
             (Wait::Prune { rest }, Reply::Fine) => self.prune(rest),
 
-            (Wait::Seal { plan, edge, rest }, Reply::Edge(at)) if *at <= LIMIT => {
+            (Wait::Seal { plan, edges, rest }, Reply::Edges(told)) if told.edge.max(told.written) <= LIMIT => {
                 let known = shortcut == Some(Shortcut::EdgeThenSeal);
-                self.seal(plan, if known { edge } else { edge.max(*at) }, rest)
+                self.seal(plan, if known { edges } else { edges.largest(*told) }, rest)
             }
-            (Wait::Edge { plan, edge, rest }, Reply::Edge(at)) => self.ask_edge(plan, edge.max(*at), rest),
+            (Wait::Edges { plan, edges, rest }, Reply::Edges(told)) => self.ask_edges(plan, edges.largest(*told), rest),
             (Wait::Offer { epoch, start }, Reply::Fine) => self.wait_for(Wait::Start, Ask::Start { epoch, position: start }),
             (Wait::Start, Reply::Fine) => done(),
             (Wait::Start, Reply::Refused(no::SEALED)) => Next::End(no::OVERTAKEN, None),
@@ -190,8 +190,8 @@ impl Operation {
                     }
                     let units = plan.units();
                     match shortcut {
-                        Some(Shortcut::EdgeThenSeal) => self.ask_edge(plan, 0, units),
-                        _ => self.seal(plan, 0, units),
+                        Some(Shortcut::EdgeThenSeal) => self.ask_edges(plan, Edges::default(), units),
+                        _ => self.seal(plan, Edges::default(), units),
                     }
                 }
             },
@@ -246,23 +246,23 @@ impl Operation {
     }
 
     /// Seals with the held epoch; when all are sealed, offers the layout.
-    fn seal(&mut self, plan: Plan, edge: u64, route: Route) -> Next {
+    fn seal(&mut self, plan: Plan, edges: Edges, route: Route) -> Next {
         if let Some((unit, rest)) = pop(route) {
             let ask = Ask::Seal { unit, epoch: self.epoch() };
-            return self.wait_for(Wait::Seal { plan, edge, rest }, ask);
+            return self.wait_for(Wait::Seal { plan, edges, rest }, ask);
         }
-        match plan.with_edge(edge) {
+        match plan.with_edges(edges) {
             Err(number) => Next::End(number, None),
             Ok((layout, start)) => self.wait_for(Wait::Offer { epoch: layout.epoch, start }, Ask::Offer { layout }),
         }
     }
 
-    fn ask_edge(&mut self, plan: Plan, edge: u64, route: Route) -> Next {
+    fn ask_edges(&mut self, plan: Plan, edges: Edges, route: Route) -> Next {
         match pop(route) {
-            Some((unit, rest)) => self.wait_for(Wait::Edge { plan, edge, rest }, Ask::EdgeOnly { unit }),
+            Some((unit, rest)) => self.wait_for(Wait::Edges { plan, edges, rest }, Ask::EdgesOnly { unit }),
             None => {
                 let units = plan.units();
-                self.seal(plan, edge, units)
+                self.seal(plan, edges, units)
             }
         }
     }

@@ -2,6 +2,7 @@
 
 use crate::layout::{good_set, Layout, Range, Set, RANGES, SETS, UNITS};
 use crate::no::{self, unless, No, LIMIT};
+use crate::unit::Edges;
 
 /// As many units as a reorganise has room to drop.
 pub const DROPS: usize = UNITS as usize;
@@ -50,13 +51,13 @@ impl Plan {
         units.into_iter().collect()
     }
 
-    /// The new layout once the largest of all edges is known, and where the sequencer starts.
-    pub fn with_edge(self, edge: u64) -> Result<(Layout, u64), No> {
+    /// The new layout once the largest of all edges are known, and where the sequencer starts: at the new range's start, or at the written edge.
+    pub fn with_edges(self, edges: Edges) -> Result<(Layout, u64), No> {
         let Plan { thinned: mut layout, new } = self;
         if new.is_empty() {
-            return Ok((layout, edge));
+            return Ok((layout, edges.written));
         }
-        let start = edge.max(layout.last_start() + 1);
+        let start = edges.edge.max(layout.last_start() + 1);
         unless(start >= LIMIT, no::SPENT)?;
         layout.ranges.push(Range { start, uses: new.len() as u8 });
         layout.sets.extend(new);

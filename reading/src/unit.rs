@@ -40,6 +40,8 @@ impl Page {
 pub enum Cell {
     Holds(Page),
     Trimmed,
+    /// Trimmed without having been written.
+    Stray,
 }
 
 impl Cell {
@@ -47,6 +49,22 @@ impl Cell {
 
     pub fn data(bytes: &[u8]) -> Cell {
         Cell::Holds(Page::Data(bytes.to_vec()))
+    }
+}
+
+/// The two numbers that a seal answers.
+#[derive(Clone, Copy, Debug, Default, PartialEq, Eq)]
+pub struct Edges {
+    /// It bounds the start of a new range.
+    pub edge: u64,
+    /// The sequencer restarts there without one.
+    pub written: u64,
+}
+
+impl Edges {
+    /// The larger of each.
+    pub fn largest(self, other: Edges) -> Edges {
+        Edges { edge: self.edge.max(other.edge), written: self.written.max(other.written) }
     }
 }
 
@@ -70,8 +88,19 @@ impl Unit {
         past_last.max(self.floor)
     }
 
+    /// The same, counting what was written: slots of kinds 1 to 3.
+    pub fn written_edge(&self) -> u64 {
+        let written = self.cells.iter().filter(|(_, cell)| **cell != Cell::Stray);
+        let past_last = written.map(|(position, _)| position + 1).max().unwrap_or(0);
+        past_last.max(self.floor)
+    }
+
+    pub fn edges(&self) -> Edges {
+        Edges { edge: self.edge(), written: self.written_edge() }
+    }
+
     pub fn is_trimmed(&self, p: u64) -> bool {
-        p < self.floor || self.cells.get(&p) == Some(&Cell::Trimmed)
+        p < self.floor || matches!(self.cells.get(&p), Some(Cell::Trimmed | Cell::Stray))
     }
 
     /// The position is one, and the epoch is above the sealed one.
@@ -100,7 +129,7 @@ impl Unit {
         unless(self.is_trimmed(p), no::TRIMMED)?;
         match self.cells.get(&p) {
             Some(Cell::Holds(page)) => Ok(page),
-            Some(Cell::Trimmed) => Err(no::TRIMMED),
+            Some(Cell::Trimmed | Cell::Stray) => Err(no::TRIMMED),
             None => Err(no::UNWRITTEN),
         }
     }
@@ -115,7 +144,7 @@ impl Unit {
                 *cell = Cell::Trimmed;
                 Ok(())
             }
-            None => self.take_slot(p, Cell::Trimmed),
+            None => self.take_slot(p, Cell::Stray),
         }
     }
 
@@ -129,9 +158,9 @@ impl Unit {
         Ok(())
     }
 
-    pub fn seal(&mut self, n: u32) -> Result<u64, No> {
+    pub fn seal(&mut self, n: u32) -> Result<Edges, No> {
         unless(n < self.sealed, no::SEALED)?;
         self.sealed = n;
-        Ok(self.edge())
+        Ok(self.edges())
     }
 }

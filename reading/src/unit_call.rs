@@ -37,11 +37,13 @@ pub struct Outputs {
     pub start: u64,
     pub length: u64,
     pub edge: u64,
+    pub written: u64,
 }
 
 impl Outputs {
     /// Something that no call gives.
-    pub const UNTOUCHED: Outputs = Outputs { kind: 0xEE, start: 0xDEAD_0001, length: 0xDEAD_0002, edge: u64::MAX };
+    pub const UNTOUCHED: Outputs =
+        Outputs { kind: 0xEE, start: 0xDEAD_0001, length: 0xDEAD_0002, edge: u64::MAX, written: u64::MAX - 1 };
 }
 
 /// All that a caller can see after a call.
@@ -79,7 +81,10 @@ fn accepted(memory: &[u8], call: &Call, mut outputs: Outputs) -> Result<(Unit, O
         }
         Call::Trim { epoch, position } => unit.trim(epoch, position)?,
         Call::Prune { epoch, position } => unit.prune(epoch, position)?,
-        Call::Seal { epoch } => outputs.edge = unit.seal(epoch)?,
+        Call::Seal { epoch } => {
+            let told = unit.seal(epoch)?;
+            (outputs.edge, outputs.written) = (told.edge, told.written);
+        }
     }
     Ok((unit, outputs))
 }

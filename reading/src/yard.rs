@@ -222,8 +222,8 @@ impl Yard {
             Ask::Read { unit, epoch, position } => self.read(unit, epoch, position),
             Ask::Trim { unit, position, .. } => fine(self.unit(unit).trim(tested, position)),
             Ask::Prune { unit, position, .. } => fine(self.unit(unit).prune(tested, position)),
-            Ask::Seal { unit, epoch } => self.unit(unit).seal(epoch).map(Reply::Edge),
-            Ask::EdgeOnly { unit } => Ok(Reply::Edge(self.unit(unit).edge())),
+            Ask::Seal { unit, epoch } => self.unit(unit).seal(epoch).map(Reply::Edges),
+            Ask::EdgesOnly { unit } => Ok(Reply::Edges(self.unit(unit).edges())),
         };
         result.unwrap_or_else(Reply::Refused)
     }

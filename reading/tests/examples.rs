@@ -2,6 +2,7 @@
 
 use reading::layout::Layout;
 use reading::plan::{plan, Change};
+use reading::unit::Edges;
 use reading::{examples, layout_bytes, no, unit_call};
 
 #[test]
@@ -31,7 +32,7 @@ fn example_10() {
 fn example_11() {
     let layout = example_layout();
     let dropping = |drops: &[u8]| {
-        plan(&layout, &Change { drops: drops.to_vec(), sets: vec![] }).and_then(|plan| plan.with_edge(0))
+        plan(&layout, &Change { drops: drops.to_vec(), sets: vec![] }).and_then(|plan| plan.with_edges(Edges::default()))
     };
     let (new, _) = dropping(&[2]).expect("lawful");
     assert_eq!(new.sets, vec![vec![1], vec![3], vec![1, 3]]);

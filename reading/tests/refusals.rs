@@ -10,7 +10,7 @@ use reading::plan::{plan, Change};
 use reading::sequencer::Sequencer;
 use reading::successor::offer;
 use reading::shape::Shape;
-use reading::unit::{Page, Unit};
+use reading::unit::{Edges, Page, Unit};
 use reading::yard::{Step, Yard};
 
 fn layout(epoch: u32, sets: &[&[u8]], ranges: &[(u64, u8)]) -> Layout {
@@ -147,8 +147,8 @@ fn reorganise_refuses_in_order() {
     assert_eq!(number(&crowded, change(&[1], &[&[3]])), no::LAYOUT_FULL);
     assert_eq!(number(&crowded, change(&[1, 8], &[])), no::FINE);
     let last = plan(&layout(1, &[&[1]], &[(0, 1)]), &change(&[], &[&[2]])).expect("fine");
-    assert_eq!(last.clone().with_edge(LIMIT), Err(no::SPENT));
-    assert_eq!(last.with_edge(0).map(|(_, start)| start), Ok(1));
+    assert_eq!(last.clone().with_edges(Edges { edge: LIMIT, written: 0 }), Err(no::SPENT));
+    assert_eq!(last.with_edges(Edges { edge: 0, written: 5 }).map(|(_, start)| start), Ok(1));
 }
 
 #[test]

@@ -23,7 +23,7 @@ pub(crate) mod c {
         ) -> u8;
         pub fn unit_trim(mem: *mut u8, len: usize, epoch: u32, position: u64) -> u8;
         pub fn unit_prune(mem: *mut u8, len: usize, epoch: u32, position: u64) -> u8;
-        pub fn unit_seal(mem: *mut u8, len: usize, epoch: u32, edge: *mut u64) -> u8;
+        pub fn unit_seal(mem: *mut u8, len: usize, epoch: u32, edge: *mut u64, written: *mut u64) -> u8;
     }
 }
 
@@ -50,6 +50,6 @@ pub fn prune(mem: &mut [u8], epoch: u32, position: u64) -> u8 {
     unsafe { c::unit_prune(mem.as_mut_ptr(), mem.len(), epoch, position) }
 }
 
-pub fn seal(mem: &mut [u8], epoch: u32, edge: &mut u64) -> u8 {
-    unsafe { c::unit_seal(mem.as_mut_ptr(), mem.len(), epoch, edge) }
+pub fn seal(mem: &mut [u8], epoch: u32, edge: &mut u64, written: &mut u64) -> u8 {
+    unsafe { c::unit_seal(mem.as_mut_ptr(), mem.len(), epoch, edge, written) }
 }

@@ -14,7 +14,7 @@ pub fn after(memory: &[u8], call: &Call, mut outputs: Outputs) -> After {
         }
         Call::Trim { epoch, position } => trim(mem, epoch, position),
         Call::Prune { epoch, position } => prune(mem, epoch, position),
-        Call::Seal { epoch } => seal(mem, epoch, &mut outputs.edge),
+        Call::Seal { epoch } => seal(mem, epoch, &mut outputs.edge, &mut outputs.written),
     });
     After { answer, outputs, memory }
 }

@@ -5,12 +5,13 @@ use reading::shape::Shape;
 use reading::unit::{Cell, Unit};
 use reading::unit_call::Call;
 
-/// What is in the slot with this index: data of many lengths, junk and trimmed.
+/// What is in the slot with this index: data of many lengths, junk, trimmed and stray.
 fn mixed(shape: Shape, index: u64) -> Cell {
     let longest = shape.payload() as u64;
-    match index % 5 {
-        3 => Cell::JUNK,
+    match index % 10 {
+        3 | 8 => Cell::JUNK,
         4 => Cell::Trimmed,
+        9 => Cell::Stray,
         _ => {
             let bytes = (0..(index * longest / 32) % (longest + 1)).map(|byte| 255 - 3 * byte as u8);
             Cell::data(&bytes.collect::<Vec<u8>>())
@@ -40,13 +41,15 @@ fn of_shape(shape: Shape) -> Vec<(&'static str, Unit)> {
         ("one empty page", unit(2, 0, 0, vec![(0, Cell::data(&[]))])),
         (
             "pages of each kind",
-            unit(3, 1, 5, vec![(5, Cell::JUNK), (7, full_page()), (8, Cell::Trimmed), (300, mixed(1))]),
+            unit(3, 1, 5, vec![(5, Cell::JUNK), (7, full_page()), (8, Cell::Trimmed), (9, Cell::Stray), (300, mixed(1))]),
         ),
         ("half full", unit(4, 1, 3, (0..all / 2).map(|i| (3 + 2 * i, mixed(i))).collect())),
         ("nearly full", unit(4, 6, 0, (0..all - 1).map(|i| (2 * i, mixed(i))).collect())),
         ("full of data", unit(5, 0, 0, (0..all).map(|i| (i, full_page())).collect())),
         ("full and mixed", unit(6, 2, 10, (0..all).map(|i| (10 + 3 * i, mixed(i))).collect())),
         ("full of trimmed", unit(7, 0, 1, (0..all).map(|i| (1 + i, Cell::Trimmed)).collect())),
+        ("full of stray", unit(7, 0, 1, (0..all).map(|i| (1 + i, Cell::Stray)).collect())),
+        ("stray behind what was written", unit(2, 0, 0, vec![(3, Cell::Trimmed), (4, Cell::Stray), (LIMIT - 1, Cell::Stray)])),
         ("pruned", unit(8, 0, 1 << 33, vec![])),
         ("pruned to the end", unit(1, 3, LIMIT, vec![])),
         ("at the last position", unit(2, 0, LIMIT - 2, vec![(LIMIT - 1, full_page())])),

@@ -107,8 +107,8 @@ pub fn after(paint: u8, memory: &[u8], call: &Call, mut outputs: Outputs) -> (Af
         Call::Trim { epoch, position } => (c::unit_trim as _, [mem, len, epoch.into(), position, 0, 0, 0, 0]),
         Call::Prune { epoch, position } => (c::unit_prune as _, [mem, len, epoch.into(), position, 0, 0, 0, 0]),
         Call::Seal { epoch } => {
-            let edge: *mut u64 = &mut outputs.edge;
-            (c::unit_seal as _, [mem, len, epoch.into(), edge as u64, 0, 0, 0, 0])
+            let [edge, written]: [*mut u64; 2] = [&mut outputs.edge, &mut outputs.written];
+            (c::unit_seal as _, [mem, len, epoch.into(), edge as u64, written as u64, 0, 0, 0])
         }
     };
     // the words are those that the library's declarations have, and what they point to outlives the call; the answer is a byte

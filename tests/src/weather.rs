@@ -124,5 +124,5 @@ fn any_bytes(random: &mut Random, most: usize) -> Vec<u8> {
 
 /// What stands in the outputs before a call.
 pub fn outputs(random: &mut Random) -> Outputs {
-    Outputs { kind: random.next() as u8, start: random.next(), length: random.next(), edge: random.next() }
+    Outputs { kind: random.next() as u8, start: random.next(), length: random.next(), edge: random.next(), written: random.next() }
 }

@@ -56,6 +56,48 @@ fn made_up_edge(memory: &[u8], call: &Call, outputs: Outputs) -> After {
     after
 }
 
+fn stray_trims_count_as_written(memory: &[u8], call: &Call, outputs: Outputs) -> After {
+    let mut after = unit_call::after(memory, call, outputs);
+    if matches!(call, Call::Seal { .. }) && after.answer == 0 {
+        after.outputs.written = after.outputs.edge;
+    }
+    after
+}
+
+/// The kind byte of each used slot: of the bytes before a fresh unit too, whatever they say.
+fn kinds(memory: &[u8]) -> impl Iterator<Item = usize> + '_ {
+    (0..count(memory)).map(|slot| HEADER + slot * shape(memory).slot() + 8).take_while(|at| *at < memory.len())
+}
+
+fn only_pages_count_as_written(memory: &[u8], call: &Call, outputs: Outputs) -> After {
+    let mut seen = memory.to_vec();
+    kinds(memory).filter(|at| memory[*at] == 3).for_each(|at| seen[at] = 4);
+    let mut after = unit_call::after(memory, call, outputs);
+    if matches!(call, Call::Seal { .. }) {
+        after.outputs.written = unit_call::after(&seen, call, outputs).outputs.written;
+    }
+    after
+}
+
+fn a_page_is_trimmed_to_kind_4(memory: &[u8], call: &Call, outputs: Outputs) -> After {
+    let mut after = unit_call::after(memory, call, outputs);
+    if matches!(call, Call::Trim { .. }) && count(memory) == count(&after.memory) {
+        let changed: Vec<usize> = kinds(memory).filter(|at| after.memory[*at] != memory[*at]).collect();
+        changed.into_iter().for_each(|at| after.memory[at] = 4);
+    }
+    after
+}
+
+fn a_stray_position_is_written(memory: &[u8], call: &Call, outputs: Outputs) -> After {
+    let stray = |at: usize, p: u64| memory[at] == 4 && memory[at - 8..at] == p.to_le_bytes();
+    match *call {
+        Call::Write { position, .. } if kinds(memory).any(|at| stray(at, position)) => {
+            After { answer: 6, ..unit_call::after(memory, call, outputs) }
+        }
+        _ => unit_call::after(memory, call, outputs),
+    }
+}
+
 fn refusals_clear_the_outputs(memory: &[u8], call: &Call, outputs: Outputs) -> After {
     let mut after = unit_call::after(memory, call, outputs);
     if matches!(call, Call::Read { .. }) && after.answer != 0 {
@@ -171,13 +213,17 @@ fn is_caught(wrong: Side) -> bool {
 
 #[test]
 fn wrong_readings_are_caught() {
-    let wrong: [(&str, Side); 18] = [
+    let wrong: [(&str, Side); 22] = [
         ("junk_as_zeros", junk_as_zeros),
         ("junk_as_data", junk_as_data),
         ("payload_one_byte_late", payload_one_byte_late),
         ("all_refused", all_refused),
         ("no_work", no_work),
         ("made_up_edge", made_up_edge),
+        ("stray_trims_count_as_written", stray_trims_count_as_written),
+        ("only_pages_count_as_written", only_pages_count_as_written),
+        ("a_page_is_trimmed_to_kind_4", a_page_is_trimmed_to_kind_4),
+        ("a_stray_position_is_written", a_stray_position_is_written),
         ("refusals_clear_the_outputs", refusals_clear_the_outputs),
         ("a_sealed_epoch_still_writes", a_sealed_epoch_still_writes),
         ("full_before_written", full_before_written),

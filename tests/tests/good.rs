@@ -115,12 +115,15 @@ fn kinds_and_lengths() {
         let (kind, length) = (|index| whole.slot(index, 8), |index| whole.slot(index, 9));
         let longest = whole.0.payload() as u64;
         whole.edited("kind 0", &[(kind(1), 1, 0)], false);
-        whole.edited("kind 4", &[(kind(1), 1, 4)], false);
+        whole.edited("kind 5", &[(kind(1), 1, 5)], false);
         whole.edited("kind 255", &[(kind(1), 1, 255)], false);
         whole.edited("junk made data of no bytes", &[(kind(1), 1, 1)], true);
         whole.edited("junk made trimmed", &[(kind(1), 1, 3)], true);
+        whole.edited("junk made stray", &[(kind(1), 1, 4)], true);
+        whole.edited("data made stray", &[(kind(0), 1, 4)], false);
         whole.edited("junk of length 1", &[(length(1), 1, 1)], false);
         whole.edited("trimmed of length 1", &[(length(2), 1, 1)], false);
+        whole.edited("stray of length 1", &[(kind(2), 1, 4), (length(2), 1, 1)], false);
         whole.edited("data of the longest length", &[(length(0), 1, longest)], true);
         whole.edited("data of one byte more", &[(length(0), 1, longest + 1)], false);
         whole.edited("data of length 255", &[(length(0), 1, 255)], false);

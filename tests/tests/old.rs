@@ -1,5 +1,6 @@
 //! A memory from before there were two shapes: the library of that version made `old/unit-3.memory` by the calls below, and kept
-//! nothing in the three bytes behind the unit's number. It reads as a small unit, and the same calls still leave those bytes.
+//! nothing in the three bytes behind the unit's number. It reads as a small unit, and the same calls still leave those bytes but
+//! for one: a position that was trimmed and never written had kind 3 in those days, and has 4 now.
 
 use reading::memory::{decode, encode, SIZE};
 use reading::shape::Shape;
@@ -67,7 +68,7 @@ fn its_pages_are_read() {
             Cell::Holds(Page::Junk) => {
                 assert_eq!((seen.answer, seen.outputs.kind, seen.outputs.length), (0, 2, 0), "read {position}")
             }
-            Cell::Trimmed => assert_eq!(seen.answer, 5, "read {position}"),
+            Cell::Trimmed | Cell::Stray => assert_eq!(seen.answer, 5, "read {position}"),
         }
     }
 }
@@ -82,8 +83,15 @@ fn it_goes_on_as_a_small_unit() {
     assert_eq!(agree("the old memory", OLD, &long(33), Outputs::UNTOUCHED).answer, 3);
 }
 
+/// Nothing in it says that the last position was never written, so it counts as written.
 #[test]
-fn the_same_calls_leave_the_same_bytes() {
+fn its_stray_trim_counts_as_written() {
+    let told = agree("the old memory", OLD, &Call::Seal { epoch: 1 }, Outputs::UNTOUCHED).outputs;
+    assert_eq!((told.edge, told.written), ((1 << 33) + 1, (1 << 33) + 1));
+}
+
+#[test]
+fn the_same_calls_leave_the_same_bytes_but_for_the_stray_trim() {
     let made = |side: Side| {
         let fresh = side(&[0x5A; SIZE], &Call::Fresh { number: 3, shape: 0 }, Outputs::UNTOUCHED).memory;
         calls().iter().fold(fresh, |memory, call| {
@@ -92,7 +100,9 @@ fn the_same_calls_leave_the_same_bytes() {
             after.memory
         })
     };
+    let mut expected = expected();
+    expected.cells.insert(1 << 33, Cell::Stray);
     for side in SIDES {
-        assert!(made(side) == OLD, "the calls leave other bytes now");
+        assert!(made(side) == encode(&expected), "the calls leave other bytes now");
     }
 }

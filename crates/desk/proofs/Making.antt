@@ -28,9 +28,9 @@ use Rattle.desk.specs.Told.{fineSets, planRefusal, madeAnswer, newLayout
 use Rattle.desk.specs.InsideMade.{emptyWish, IsMade}
 use Rattle.desk.proofs.Wishes.{wish-answers, wish-news}
 
--- the edges that the units are said to have told
+-- the edges that the units are said to have told: the written one is not asked for, since no layout depends on it
 abbrev said : ℕ → Edges
-said edge = record { edge = record { 0 = edge } }
+said edge = record { edge = record { 0 = edge }; written = record { 0 = 0 } }
 
 blank-started : (edges : Edges) → startedAt blank edges .layout ≡ blank
 unfolding isOpen layOf

@@ -68,8 +68,10 @@ pub(crate) fn make(held: Layout, drops: &[u8], sets: &[u8], edge: u64) -> Made
 {
     let planned = plan(held, drops, wish_for(drops, sets));
     let next = planned.layout;
+    // No layout depends on the written edge.
     let edges = Edges {
         edge: Position(edge),
+        written: Position(0),
     };
     let started = with_start(next, edges);
     let layout = started.layout;

@@ -37,7 +37,7 @@ spent-is edge last = go (leb limit edge) refl (leb (limit - 1) last) refl
     go false e false f = lt-leb limit (max edge (last + 1)) (omega (arith, leb-false limit edge e, leb-false (limit - 1) last f))
 
 module _ (plan : Layout) (edges : Edges) where
-  pub started-same : isOpen (layOf plan .spans) ≡ false → record { answer = 0; layout = plan; first = edges .edge } ≡ startedAt plan edges
+  pub started-same : isOpen (layOf plan .spans) ≡ false → record { answer = 0; layout = plan; first = edges .written } ≡ startedAt plan edges
   unfolding startedAt settleAnswer settled settledFirst
   started-same e = sym (rw e)
 

@@ -75,9 +75,9 @@ unfoldable pub startAnswer : Lay → List (List ℕ) → ℕ → ℕ
 startAnswer held [] edge = 0
 startAnswer held (us ∷ sets) edge = lowest (9 if leb limit (newStart held edge) ∷ [])
 
--- where the sequencer is started: the largest edge, or the new range's start
+-- where the sequencer is started: the largest written edge, or the new range's start
 unfoldable pub firstFree : Lay → List (List ℕ) → Edges → ℕ
-firstFree held [] edges = edges .edge .0
+firstFree held [] edges = edges .written .0
 firstFree held (us ∷ sets) edges = newStart held (edges .edge .0)
 
 -- ---- for every value: the plan
@@ -142,9 +142,9 @@ settleAnswer plan edge = lowest (9 if (isOpen (layOf plan .spans) && leb limit (
 unfoldable pub settled : Layout → ℕ → Layout
 settled plan edge = cond (isOpen (layOf plan .spans)) (startSet (length (layOf plan .spans) - 1) (openStart (layOf plan .spans) edge) plan) plan
 
--- where the sequencer is started: the largest edge, or the new range's start
+-- where the sequencer is started: the largest written edge, or the new range's start
 unfoldable pub settledFirst : Layout → Edges → ℕ
-settledFirst plan edges = cond (isOpen (layOf plan .spans)) (openStart (layOf plan .spans) (edges .edge .0)) (edges .edge .0)
+settledFirst plan edges = cond (isOpen (layOf plan .spans)) (openStart (layOf plan .spans) (edges .edge .0)) (edges .written .0)
 
 -- the plan with its start set, and where the sequencer is started; none and 0 where it is refused
 unfoldable pub startedAt : Layout → Edges → Started

@@ -248,12 +248,12 @@ fn set_start(mut l: Layout, k: usize, start: u64) -> Layout
     l
 }
 
-// The plan with its new range's start set, above the largest edge; and where the sequencer is to be started.
+// The plan with its new range's start set, at the largest edge or above; and where the sequencer is to be started: there, or at the written edge.
 pub fn with_start(plan: Layout, edges: Edges) -> Started
     ensures { λ r. ⌜ r ≡ startedAt plan edges ⌝ }
 {
     if !has_open(plan) {
-        let first = edges.edge;
+        let first = edges.written;
         return Started {
             answer: Answer::FINE,
             layout: plan,

@@ -10,9 +10,9 @@ use lib.Dec.{eqb}
 use lib.ListN.{length, getD}
 use Rattle.num.proofs.Tests.{and-both}
 use Rattle.unit.specs.Shape.{shapeFor}
-use Rattle.unit.specs.State.{State, lookup, insert, keepFrom, retire, edge, lastEnd}
+use Rattle.unit.specs.State.{State, lookup, insert, keepFrom, retire, edge, lastEnd, writtenEdge, writtenEnd}
 use Rattle.unit.specs.Memory.{encode, valid, validSlots}
-use Rattle.unit.specs.Kinds.{isKind, isPage, hasBytes, isGone}
+use Rattle.unit.specs.Kinds.{isKind, isPage, hasBytes, isGone, wasWritten}
 use Rattle.unit.specs.Unit.{freshUnit, written, retired, trimmedAt, pruned, prunedTo, sealedAt, says, after as unit-after, report}
 use Rattle.num.specs.Bytes.{numberAt, le, leBytes}
 use Rattle.layout.specs.Lay.{rising, goodSet, goodSets, goodSpans, firstAtZero, used, good, _in?_, inSets, usedFrom, unitsOf}
@@ -77,7 +77,7 @@ tail (r ∷ rs) = rs
 
 -- the test, computed: every row but the first, which makes the small unit 1
 all : passes 0 (freshUnit 1) (tail rows) ≡ true
-unfolding passes rows shapeFor sure tells next nextCode filled valid validSlots lookup insert keepFrom retire lastEnd edge isKind isPage hasBytes isGone written retired trimmedAt pruned prunedTo sealedAt says unit-after report placeTold dropTold numberAt le leBytes rising goodSet goodSets goodSpans firstAtZero used good _in?_ inSets usedFrom unitsOf padded layOf valueOf zeros tidyChain tidyChains blankRanges tidy goodValue setsBytes spansBytes encode-bytes setsAt pastSets spansAt decode same isLayout readLayout placed setNumber placeAnswer placedAt without badDrops emptied goodChains planned reorganiseAnswer plannedFor
+unfolding passes rows shapeFor sure tells next nextCode filled valid validSlots lookup insert keepFrom retire lastEnd edge writtenEnd writtenEdge isKind isPage hasBytes isGone wasWritten written retired trimmedAt pruned prunedTo sealedAt says unit-after report placeTold dropTold numberAt le leBytes rising goodSet goodSets goodSpans firstAtZero used good _in?_ inSets usedFrom unitsOf padded layOf valueOf zeros tidyChain tidyChains blankRanges tidy goodValue setsBytes spansBytes encode-bytes setsAt pastSets spansAt decode same isLayout readLayout placed setNumber placeAnswer placedAt without badDrops emptied goodChains planned reorganiseAnswer plannedFor
 all = refl
 
 made : (m : List ℕ) → length m ≡ 6168 → freshAnswer m 1 0 ≡ 0

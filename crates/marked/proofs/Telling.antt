@@ -75,6 +75,6 @@ unfolding toldOf leftBy
 read-told x a k = record { told-is = told-eq (a ∙ x .answered .answer-is) (k ∙ x .kind-is) (x .length-is); memory-is = refl }
 
 pub seal-told : {m after : List ℕ} {n : Epoch} {answer a : ℕ} {edges : Edges} → IsSealed m n answer edges after → a ≡ answer
-    → IsTold m (Seal n) (told a (edges .edge .0) 0) after
+    → IsTold m (Seal n) (told a (edges .edge .0) (edges .written .0)) after
 unfolding toldOf leftBy
-seal-told x a = record { told-is = told-eq (a ∙ x .answered .answer-is) (ap (λ (s : Edges). s .edge .0) (x .edges-is)) refl; memory-is = x .answered .memory-is }
+seal-told x a = record { told-is = told-eq (a ∙ x .answered .answer-is) (ap (λ (s : Edges). s .edge .0) (x .edges-is)) (ap (λ (s : Edges). s .written .0) (x .edges-is)); memory-is = x .answered .memory-is }

@@ -50,7 +50,10 @@ toldOf m (Read e p) =
     (length (reported (shapeOf m) m (read e p) .page .payload))
 toldOf m (Trim e p) = told (answer (shapeOf m) m (trim e p)) 0 0
 toldOf m (Prune e p) = told (answer (shapeOf m) m (prune e p)) 0 0
-toldOf m (Seal n) = told (answer (shapeOf m) m (seal n)) (reported (shapeOf m) m (seal n) .edges .edge .0) 0
+toldOf m (Seal n) =
+    told (answer (shapeOf m) m (seal n))
+    (reported (shapeOf m) m (seal n) .edges .edge .0)
+    (reported (shapeOf m) m (seal n) .edges .written .0)
 toldOf m (Fill n) = told (fillAnswer m n) 0 0
 toldOf m Floor = told 0 (numberAt 8 8 m) 0
 toldOf m (Place p) = placeTold (p .0)

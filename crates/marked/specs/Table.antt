@@ -1,6 +1,6 @@
 -- The marked examples of docs/RULES.md, 13: what each row asks, and what must be answered. Examples 1 to 9 each start with a fresh unit 1, and stand once, for either shape.
 -- 10 and 11 ask of a layout; a set's units are shown as a number, a byte each, lowest first.
--- An edge that an example names is shown by a seal of the epoch at which the unit is sealed already.
+-- Edges that an example names are shown by a seal of the epoch at which the unit is sealed already.
 use Prim.Native.Nat.{ℕ, _+_, _*_, _-_}
 use mathlib.Core.List.{List, [], _∷_, _++_}
 use Rattle.num.specs.Limits.{limit}
@@ -56,9 +56,13 @@ answers number = told number 0 0
 abbrev shows : ℕ → ℕ → Told
 shows kind size = told 0 kind size
 
--- fine, with an edge or a floor
+-- fine, with a floor
 abbrev stands : ℕ → Told
 stands p = told 0 p 0
+
+-- fine, with the edge and the written edge
+abbrev edges : ℕ → ℕ → Told
+edges edge written = told 0 edge written
 
 -- fine, with the number of a set
 abbrev belongs : ℕ → Told
@@ -88,15 +92,15 @@ unitRows sh =
     ∷ row 5 (bytes 1 0 (sh .cap)) (answers 0)
     ∷ row 5 (bytes 1 0 (sh .cap + 1)) (answers 3)
     ∷ row 6 (Fresh 1 (sh .code)) (answers 0)
-    ∷ row 6 (seal 1) (stands 0)
+    ∷ row 6 (seal 1) (edges 0 0)
     ∷ row 6 (bytes 1 0 0) (answers 4)
     ∷ row 6 (bytes 2 0 0) (answers 0)
-    ∷ row 6 (seal 1) (stands 1)
+    ∷ row 6 (seal 1) (edges 1 1)
     ∷ row 6 (seal 0) (answers 4)
     ∷ row 7 (Fresh 1 (sh .code)) (answers 0)
     ∷ row 7 (trim 1 5) (answers 0)
     ∷ row 7 (bytes 1 5 0) (answers 5)
-    ∷ row 7 (seal 0) (stands 6)
+    ∷ row 7 (seal 0) (edges 6 0)
     ∷ row 8 (Fresh 1 (sh .code)) (answers 0)
     ∷ row 8 (Fill (sh .room)) (answers 0)
     ∷ row 8 (bytes 1 (sh .room) 0) (answers 8)
@@ -108,7 +112,7 @@ unitRows sh =
     ∷ row 9 (prune 1 3) (answers 0)
     ∷ row 9 (prune 1 2) (answers 0)
     ∷ row 9 Floor (stands 3)
-    ∷ row 9 (seal 0) (stands 3)
+    ∷ row 9 (seal 0) (edges 3 3)
     ∷ []
 
 abbrev layoutRows : List Row

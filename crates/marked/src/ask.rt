@@ -21,7 +21,7 @@ pub enum Ask {
     Drop(u8, u8, usize),
 }
 
-// The number answered; of a read also the kind and the length, of a seal the edge, of the floor the floor; of a position the
+// The number answered; of a read also the kind and the length, of a seal the edge and the written edge, of the floor the floor; of a position the
 // number of its set, counted from 0, of a set how many units it has and the units, a byte each, lowest first. 0 elsewhere.
 pub struct Told {
     pub answer: u64,

@@ -102,6 +102,8 @@ fn say_told(asked: Ask, told: Told) {
         Ask::Seal(_) => {
             text(b" edge ");
             number(told.first);
+            text(b" written edge ");
+            number(told.second);
         }
         Ask::Floor => {
             text(b" floor ");

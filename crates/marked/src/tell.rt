@@ -63,7 +63,7 @@ fn tell_seal(mem: &mut [u8], n: Epoch) -> Told
     Told {
         answer: wide(sealed.answer),
         first: sealed.edges.edge.0,
-        second: 0,
+        second: sealed.edges.written.0,
     }
 }
 

@@ -9,7 +9,10 @@ impl Edges {
     pub fn none() -> Edges
         ensures { λ r. ⌜ r ≡ noEdges ⌝ }
     {
-        Edges { edge: Position(0) }
+        Edges {
+            edge: Position(0),
+            written: Position(0),
+        }
     }
 }
 
@@ -25,6 +28,7 @@ pub fn largest(a: Edges, b: Edges) -> Edges
 {
     Edges {
         edge: larger(a.edge, b.edge),
+        written: larger(a.written, b.written),
     }
 }
 
@@ -32,5 +36,5 @@ pub fn largest(a: Edges, b: Edges) -> Edges
 pub fn within(e: Edges) -> bool
     ensures { λ r. ⌜ r ≡ within e ⌝ }
 {
-    e.edge.0 <= Position::LIMIT
+    (e.edge.0 <= Position::LIMIT) & (e.written.0 <= Position::LIMIT)
 }

@@ -20,8 +20,8 @@ use Rattle.layout.specs.Plan.{without, badDrops, emptied, planAnswer, planned, 
 use Rattle.layout.specs.Holder.{offerAnswer, offeredTo, fetchedFrom}
 use Rattle.layout.specs.Successor.{sublist, keepsSets, keepsSpans, lawful}
 use Rattle.unit.specs.Shape.{shapeFor}
-use Rattle.unit.specs.State.{lookup, insert, keepFrom, before, lastEnd, edge, retire}
-use Rattle.unit.specs.Kinds.{isPage, hasBytes, isGone}
+use Rattle.unit.specs.State.{lookup, insert, keepFrom, before, lastEnd, edge, writtenEnd, writtenEdge, retire}
+use Rattle.unit.specs.Kinds.{isPage, hasBytes, isGone, wasWritten}
 use Rattle.unit.specs.Unit.{written, retired, trimmedAt, sealedAt, says as unit-says, after as unit-after, report}
 use Rattle.sequencer.specs.Rules.{number, position, told, after as sequencer-after}
 use Rattle.client.specs.declared.Ask.{Ask}
@@ -276,5 +276,5 @@ ranges =
     ∷ []
 
 pub ranges-happen : Happens ranges
-unfolding rising goodSet goodSets goodSpans firstAtZero used good _in?_ inSets usedFrom unitsOf padded layOf valueOf zeros tidyChain tidyChains blankRanges tidy goodValue placed setNumber setAt headOf tailOf after above placeAnswer unitsAt without badDrops emptied planAnswer planned lastStart newStart startAnswer firstFree goodChains reorganiseAnswer plannedFor isOpen openStart startSet settleAnswer settled settledFirst startedAt offerAnswer offeredTo fetchedFrom sublist keepsSets keepsSpans lawful lookup insert lastEnd edge written sealedAt number position told sequencer-after idle sends otherwise dataLimit shapeFor writesAt writesOn beginTurn holds worksOn isShowable pageTaken noRefusal awaited takes allSealed sealsOn reorganises largest within edgesTaken notStarted letters-without turned beginNumber begins served taken delivered delivers step kindOf bytesOf pageOf edged asking fetching offeringTo unitSays unitAfter serve freshUnits freshWorld mails story isPage hasBytes isGone unit-says unit-after report
+unfolding rising goodSet goodSets goodSpans firstAtZero used good _in?_ inSets usedFrom unitsOf padded layOf valueOf zeros tidyChain tidyChains blankRanges tidy goodValue placed setNumber setAt headOf tailOf after above placeAnswer unitsAt without badDrops emptied planAnswer planned lastStart newStart startAnswer firstFree goodChains reorganiseAnswer plannedFor isOpen openStart startSet settleAnswer settled settledFirst startedAt offerAnswer offeredTo fetchedFrom sublist keepsSets keepsSpans lawful lookup insert lastEnd edge writtenEnd writtenEdge wasWritten written sealedAt number position told sequencer-after idle sends otherwise dataLimit shapeFor writesAt writesOn beginTurn holds worksOn isShowable pageTaken noRefusal awaited takes allSealed sealsOn reorganises largest within edgesTaken notStarted letters-without turned beginNumber begins served taken delivered delivers step kindOf bytesOf pageOf edged asking fetching offeringTo unitSays unitAfter serve freshUnits freshWorld mails story isPage hasBytes isGone unit-says unit-after report
 ranges-happen = refl

@@ -12,8 +12,8 @@ pub told-once : {m : List ℕ} {e : Epoch} {p : Position} {k s n a k₁ s₁ n�
     → (a ≡ b) × ((k₁ ≡ k₂) × ((s₁ ≡ s₂) × (n₁ ≡ n₂)))
 told-once x y = (once (x .answered .answer-is) (y .answered .answer-is), (once (x .kind-is) (y .kind-is), (once (x .start-is) (y .start-is), once (x .length-is) (y .length-is))))
 
-pub seal-told-once : {m : List ℕ} {e : Epoch} {g a g₁ b g₂ : ℕ} {m₁ m₂ : List ℕ} → IsSealTold m e g a g₁ m₁ → IsSealTold m e g b g₂ m₂
-    → (a ≡ b) × ((g₁ ≡ g₂) × (m₁ ≡ m₂))
+pub seal-told-once : {m : List ℕ} {e : Epoch} {g w a g₁ w₁ b g₂ w₂ : ℕ} {m₁ m₂ : List ℕ} → IsSealTold m e g w a g₁ w₁ m₁ → IsSealTold m e g w b g₂ w₂ m₂
+    → (a ≡ b) × ((g₁ ≡ g₂) × ((w₁ ≡ w₂) × (m₁ ≡ m₂)))
 seal-told-once x y =
     let (n, left) = answer-once (x .answered) (y .answered) in
-    (n, (once (x .edge-is) (y .edge-is), left))
+    (n, (once (x .edge-is) (y .edge-is), (once (x .written-is) (y .written-is), left)))

@@ -25,7 +25,8 @@ pub record IsTold (m : List ℕ) (e : Epoch) (p : Position) (kind at size n kind
   pub start-is : at′ ≡ told (answer (shapeOf m) m (read e p)) (start (shapeOf m) m e p) at
   pub length-is : size′ ≡ told (answer (shapeOf m) m (read e p)) (length (reported (shapeOf m) m (read e p) .page .payload)) size
 
--- a seal, and the lent edge before and after it
-pub record IsSealTold (m : List ℕ) (e : Epoch) (edge n edge′ : ℕ) (after : List ℕ) : Type 0 where
+-- a seal, and the lent edges before and after it
+pub record IsSealTold (m : List ℕ) (e : Epoch) (edge written n edge′ written′ : ℕ) (after : List ℕ) : Type 0 where
   pub answered : IsAnswered m (seal e) n after
   pub edge-is : edge′ ≡ told (answer (shapeOf m) m (seal e)) (reported (shapeOf m) m (seal e) .edges .edge .0) edge
+  pub written-is : written′ ≡ told (answer (shapeOf m) m (seal e)) (reported (shapeOf m) m (seal e) .edges .written .0) written

@@ -68,15 +68,16 @@ pub extern "C" fn unit_prune(mem: &mut [u8], epoch: u32, position: u64) -> u8
     prune(mem, Epoch(epoch), Position(position))
 }
 
-// On a refusal `edge` keeps what it held.
+// On a refusal `edge` and `written` keep what they held.
 #[no_mangle]
-pub extern "C" fn unit_seal(mem: &mut [u8], epoch: u32, edge: &mut u64) -> u8
-    ensures { λ r. ⌜ IsSealTold (now (mem .entry)) (epochOf epoch) (now (edge .entry)) r (now (edge .exit)) (now (mem .exit)) ⌝ }
+pub extern "C" fn unit_seal(mem: &mut [u8], epoch: u32, edge: &mut u64, written: &mut u64) -> u8
+    ensures { λ r. ⌜ IsSealTold (now (mem .entry)) (epochOf epoch) (now (edge .entry)) (now (written .entry)) r (now (edge .exit)) (now (written .exit)) (now (mem .exit)) ⌝ }
 {
     let done = seal(mem, Epoch(epoch));
     let answer = done.answer;
     if answer == 0 {
         *edge = done.edges.edge.0;
+        *written = done.edges.written.0;
     }
     answer
 }

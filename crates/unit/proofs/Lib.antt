@@ -16,6 +16,7 @@ pub mod Pruning
 pub mod Sealing
 pub mod Trimming
 pub mod Lookup
+pub mod WrittenEdge
 pub mod Keeping
 pub mod Freshness
 pub mod Holding

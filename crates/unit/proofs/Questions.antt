@@ -1,17 +1,17 @@
 -- Laws of the kinds: how the questions that are asked of a kind hang together. The other laws cite these, and see through no question.
 use Prim.Native.Nat.{ℕ, _≤_}
-use mathlib.Core.Bool.{Bool, true, false}
+use mathlib.Core.Bool.{Bool, true, false, _||_}
 use mathlib.Core.Path.{_≡_, refl, sym, subst}
 use native.Mathlib.Omega.{arith}
 use borrow.Author.Tests.{leb-true, eqb-true, eqb-false}
 use lib.Dec.{leb, eqb}
-use Rattle.num.proofs.Tests.{and-both, false-true}
-use Rattle.unit.specs.Kinds.{noKind, dataKind, junkKind, trimmedKind, retiredKind, strayKind, isKind, isPage, hasBytes, isGone}
+use Rattle.num.proofs.Tests.{and-both, or-false, false-true}
+use Rattle.unit.specs.Kinds.{noKind, dataKind, junkKind, retiredKind, strayKind, isKind, isPage, hasBytes, isGone, wasWritten}
 
 -- the least kind is data's
 pub kind-least : (k : ℕ) → isKind k ≡ true → 1 ≤ k
 unfolding isKind
-kind-least k h = leb-true dataKind k (and-both (leb dataKind k) (leb k trimmedKind) h .0)
+kind-least k h = leb-true dataKind k (and-both (leb dataKind k) (leb k strayKind) h .0)
 
 -- where no slot is, none of the questions is answered with yes
 pub kind-some : (k : ℕ) → isKind k ≡ true → k ≡ noKind → ⊥
@@ -58,16 +58,18 @@ page-stays k h = go (eqb k dataKind) refl (eqb k junkKind) refl
 pub stays-page : (k : ℕ) → isKind k ≡ true → isGone k ≡ false → isPage k ≡ true
 unfolding isKind isPage isGone
 stays-page k h g =
-    let (l, m) = and-both (leb dataKind k) (leb k trimmedKind) h in
-    go (eqb k dataKind) refl (eqb k junkKind) refl (leb-true dataKind k l) (leb-true k trimmedKind m)
+    let (l, m) = and-both (leb dataKind k) (leb k strayKind) h in
+    go (eqb k dataKind) refl (eqb k junkKind) refl (leb-true dataKind k l) (leb-true k strayKind m)
   where
-    go : (a : Bool) → eqb k dataKind ≡ a → (b : Bool) → eqb k junkKind ≡ b → dataKind ≤ k → k ≤ trimmedKind → isPage k ≡ true
+    go : (a : Bool) → eqb k dataKind ≡ a → (b : Bool) → eqb k junkKind ≡ b → dataKind ≤ k → k ≤ strayKind → isPage k ≡ true
     go true e b f l m = rw e
     go false e true f l m = rw (e, f)
     go false e false f l m =
         let d = eqb-false k dataKind e in
         let j = eqb-false k junkKind f in
-        let t = eqb-false k trimmedKind g in
+        let (r, t) = or-false (eqb k retiredKind) (eqb k strayKind) g in
+        let a = eqb-false k retiredKind r in
+        let b = eqb-false k strayKind t in
         absurd (omega arith)
 
 -- what a trim leaves is a kind of a slot, and gone
@@ -86,6 +88,23 @@ stray-kind = refl
 pub stray-gone : isGone strayKind ≡ true
 unfolding isGone
 stray-gone = refl
+
+-- a page was written, and so was what a trim makes of it; what it makes of nothing was not
+pub page-written : (k : ℕ) → isPage k ≡ true → wasWritten k ≡ true
+unfolding wasWritten
+page-written k h = rw h
+
+pub retired-written : wasWritten retiredKind ≡ true
+unfolding wasWritten
+retired-written = or-true (isPage retiredKind)
+  where
+    or-true : (b : Bool) → (b || true) ≡ true
+    or-true true = refl
+    or-true false = refl
+
+pub stray-unwritten : wasWritten strayKind ≡ false
+unfolding wasWritten isPage
+stray-unwritten = refl
 
 -- a page is data or junk, and junk has no bytes
 pub page-cases : (P : ℕ → Type 0) → P dataKind → P junkKind → (k : ℕ) → isPage k ≡ true → P k

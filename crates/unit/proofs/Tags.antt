@@ -48,8 +48,8 @@ turned-back cap tag t c e l =
     let (h, z) = turned-parts cap (t / 256) (t % 256) c l in
     plain-next cap tag t (few-next tag t e (few-plain t z (le-trans h c))) z h
 
--- a turned word that is a length from 1 on is none of the three of no length, and of these only the first is turned to 0
-plain-far : (t turn : ℕ) → turn ≡ t / 256 + t % 256 * 72057594037927936 → 1 ≤ turn → turn ≤ 80 → 2 < t
+-- a turned word that is a length from 1 on is none of the four of no length, and of these only the first is turned to 0
+plain-far : (t turn : ℕ) → turn ≡ t / 256 + t % 256 * 72057594037927936 → 1 ≤ turn → turn ≤ 80 → 3 < t
 plain-far t turn e l h =
     let (_, z) = turned-parts 80 (t / 256) (t % 256) (omega arith) (rw e at h) in
     omega arith
@@ -69,29 +69,29 @@ one-less cap w turn c e h = (omega arith, omega arith)
 one-less-past : (cap w turn : ℕ) → w < 2 ^ 64 → (w + 1) % 2 ^ 64 ≡ turn → cap ≤ w → 1 ≤ turn → cap < turn
 one-less-past cap w turn h e l n = omega arith
 
-plain-some : (t turn : ℕ) → turn ≡ t / 256 + t % 256 * 72057594037927936 → 2 < t → 1 ≤ turn
+plain-some : (t turn : ℕ) → turn ≡ t / 256 + t % 256 * 72057594037927936 → 3 < t → 1 ≤ turn
 plain-some t turn e h = omega arith
 
 -- t is one less than the word, and its low byte is moved to the top
 pub tag-good : (cap tag t : ℕ) → cap ≤ 80 → tag < 2 ^ 64 → t < 2 ^ 64 → (t + 1) % 2 ^ 64 ≡ tag
-    → (leb (t / 256 + t % 256 * 72057594037927936) cap || leb t 2) ≡ goodFields cap 0 0 (tag % 256) (tag / 256)
+    → (leb (t / 256 + t % 256 * 72057594037927936) cap || leb t 3) ≡ goodFields cap 0 0 (tag % 256) (tag / 256)
 unfolding isKind hasBytes
-tag-good cap tag t hc hg ht e = go (leb turned cap) refl (leb t 2) refl
+tag-good cap tag t hc hg ht e = go (leb turned cap) refl (leb t 3) refl
   where
     turned : ℕ
     turned = t / 256 + t % 256 * 72057594037927936
 
-    go : (a : Bool) → leb turned cap ≡ a → (b : Bool) → leb t 2 ≡ b → (a || b) ≡ goodFields cap 0 0 (tag % 256) (tag / 256)
+    go : (a : Bool) → leb turned cap ≡ a → (b : Bool) → leb t 3 ≡ b → (a || b) ≡ goodFields cap 0 0 (tag % 256) (tag / 256)
     go true h b g =
         let (k, n) = turned-back cap tag t hc e (leb-true turned cap h) in
         sym (rw (k, le-leb (tag / 256) cap n))
     go false h true g =
-        let l = leb-true t 2 g in
+        let l = leb-true t 3 g in
         let q = few-next tag t e (omega arith) in
         let n : tag / 256 ≡ 0 = omega arith in
         let k : 1 ≤ tag % 256 = omega arith in
-        let m : tag % 256 ≤ 3 = omega arith in
-        sym (rw (n, le-leb 1 (tag % 256) k, le-leb (tag % 256) 3 m, le-leb 0 cap (omega arith), or-true))
+        let m : tag % 256 ≤ 4 = omega arith in
+        sym (rw (n, le-leb 1 (tag % 256) k, le-leb (tag % 256) 4 m, le-leb 0 cap (omega arith), or-true))
     go false h false g = sym (not-so _ (λ y. none (fields-good cap 0 0 (tag % 256) (tag / 256) y)))
       where
         none : FieldsGood cap 0 0 (tag % 256) (tag / 256) → ⊥
@@ -105,18 +105,18 @@ tag-good cap tag t hc hg ht e = go (leb turned cap) refl (leb t 2) refl
             pick false q =
                 let d = eqb-false (tag % 256) 1 q in
                 let l = eqb-true (tag / 256) 0 (rw q at (f .plain)) in
-                let x = leb-false t 2 g in
-                let (least, most) = and-both (leb 1 (tag % 256)) (leb (tag % 256) 3) (f .known) in
+                let x = leb-false t 3 g in
+                let (least, most) = and-both (leb 1 (tag % 256)) (leb (tag % 256) 4) (f .known) in
                 let a = leb-true 1 (tag % 256) least in
-                let b = leb-true (tag % 256) 3 most in
+                let b = leb-true (tag % 256) 4 most in
                 let n : tag ≡ t + 1 = omega arith in
                 omega arith
 
 -- x counts a word that is no length from 1 to cap, and y takes off one of no length
 pub tag-faults : (cap tag t turn w x y : ℕ) → cap ≤ 80 → tag < 2 ^ 64 → t < 2 ^ 64 → w < 2 ^ 64 → (t + 1) % 2 ^ 64 ≡ tag
-    → turn ≡ t / 256 + t % 256 * 72057594037927936 → (w + 1) % 2 ^ 64 ≡ turn → x ≤ 1 → eqb x 0 ≡ ltb w cap → y ≤ 1 → eqb y 0 ≡ ltb 2 t
+    → turn ≡ t / 256 + t % 256 * 72057594037927936 → (w + 1) % 2 ^ 64 ≡ turn → x ≤ 1 → eqb x 0 ≡ ltb w cap → y ≤ 1 → eqb y 0 ≡ ltb 3 t
     → (y ≤ x) × (eqb (x - y) 0 ≡ goodFields cap 0 0 (tag % 256) (tag / 256))
-tag-faults cap tag t turn w x y hc hg ht hw e et ew hx ex hy ey = (go (ltb w cap) refl (ltb 2 t) refl .0, go (ltb w cap) refl (ltb 2 t) refl .1 ∙ rw et (tag-good cap tag t hc hg ht e))
+tag-faults cap tag t turn w x y hc hg ht hw e et ew hx ex hy ey = (go (ltb w cap) refl (ltb 3 t) refl .0, go (ltb w cap) refl (ltb 3 t) refl .1 ∙ rw et (tag-good cap tag t hc hg ht e))
   where
     both : (x y : ℕ) → x ≡ 0 → y ≡ 0 → y ≤ x
     both x y ex ey = omega arith
@@ -124,28 +124,28 @@ tag-faults cap tag t turn w x y hc hg ht hw e et ew hx ex hy ey = (go (ltb w cap
     only : (x : ℕ) → x ≤ 1 → (x ≡ 0 → ⊥) → x ≡ 1
     only x h n = omega arith
 
-    go : (a : Bool) → ltb w cap ≡ a → (b : Bool) → ltb 2 t ≡ b → (y ≤ x) × (eqb (x - y) 0 ≡ (leb turn cap || leb t 2))
+    go : (a : Bool) → ltb w cap ≡ a → (b : Bool) → ltb 3 t ≡ b → (y ≤ x) × (eqb (x - y) 0 ≡ (leb turn cap || leb t 3))
     go true a b q =
         let l = ltb-true w cap a in
         let z = eqb-true x 0 (ex ∙ a) in
         let (some, most) = one-less cap w turn hc ew l in
-        let n = eqb-true y 0 (ey ∙ lt-ltb 2 t (plain-far t turn et some (le-trans most hc))) in
+        let n = eqb-true y 0 (ey ∙ lt-ltb 3 t (plain-far t turn et some (le-trans most hc))) in
         (both x y z n, rw (z, n, le-leb turn cap most))
     go false a true q =
         let l = ltb-false w cap a in
         let z = eqb-false x 0 (ex ∙ a) in
         let n = eqb-true y 0 (ey ∙ q) in
-        let far = ltb-true 2 t q in
+        let far = ltb-true 3 t q in
         let past = one-less-past cap w turn hw ew l (plain-some t turn et far) in
         let one = only x hx z in
-        (rw n (omega arith), rw (one, n, lt-leb turn cap past, lt-leb t 2 far))
+        (rw n (omega arith), rw (one, n, lt-leb turn cap past, lt-leb t 3 far))
     go false a false q =
         let z = eqb-false x 0 (ex ∙ a) in
         let n = eqb-false y 0 (ey ∙ q) in
-        let near = ltb-false 2 t q in
+        let near = ltb-false 3 t q in
         let one = only x hx z in
         let other = only y hy n in
-        (rw (one, other) (omega arith), rw (one, other, le-leb t 2 near) (sym (or-true (leb turn cap))))
+        (rw (one, other) (omega arith), rw (one, other, le-leb t 3 near) (sym (or-true (leb turn cap))))
 
 -- and the length of a word that may be good
 pub tag-length : (tag t turn : ℕ) → tag < 2 ^ 64 → t < 2 ^ 64 → (t + 1) % 2 ^ 64 ≡ tag → turn ≡ t / 256 + t % 256 * 72057594037927936

@@ -13,19 +13,17 @@ dataKind = 1
 abbrev pub junkKind : ℕ
 junkKind = 2
 
-abbrev pub trimmedKind : ℕ
-trimmedKind = 3
-
--- what a trim makes of a page, and of a position that was never written
+-- what a trim makes of a page
 abbrev pub retiredKind : ℕ
-retiredKind = trimmedKind
+retiredKind = 3
 
+-- what it makes of a position that was never written
 abbrev pub strayKind : ℕ
-strayKind = trimmedKind
+strayKind = 4
 
 -- a used slot may have it
 unfoldable pub isKind : ℕ → Bool
-isKind k = leb dataKind k && leb k trimmedKind
+isKind k = leb dataKind k && leb k strayKind
 
 -- a page: written by a writer, shown to a reader
 unfoldable pub isPage : ℕ → Bool
@@ -37,4 +35,8 @@ hasBytes k = eqb k dataKind
 
 -- its position is trimmed
 unfoldable pub isGone : ℕ → Bool
-isGone k = eqb k trimmedKind
+isGone k = eqb k retiredKind || eqb k strayKind
+
+-- its position was written, whether it is trimmed since or not
+unfoldable pub wasWritten : ℕ → Bool
+wasWritten k = isPage k || eqb k retiredKind

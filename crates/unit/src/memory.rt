@@ -55,7 +55,7 @@ fn tag_fault(cap: usize, tag: u64, t: u64, turn: u64) -> u64
     requires { ⌜ (cap ≤ 80) × ((t + 1) % 2 ^ 64 ≡ tag) × (turn ≡ t / 256 + t % 256 * 72057594037927936) ⌝ }
     ensures { λ r. ⌜ (r ≤ 1) × (eqb r 0 ≡ goodFields cap 0 0 (tag % 256) (tag / 256)) ⌝ }
 {
-    fault(std::num::wrapping_sub_u64(turn, 1) < cap as u64) - fault(2 < t)
+    fault(std::num::wrapping_sub_u64(turn, 1) < cap as u64) - fault(3 < t)
 }
 
 // The word at `at`, of which only what stands under the full bytes of the ruler's word at `k` is left.

@@ -14,8 +14,8 @@ use Rattle.layout.specs.Plan.{without, badDrops, emptied, planned, lastStart, g
 use Rattle.layout.specs.Holder.{offerAnswer, offeredTo, fetchedFrom}
 use Rattle.layout.specs.Successor.{sublist, keepsSets, keepsSpans, lawful}
 use Rattle.unit.specs.Shape.{shapeFor}
-use Rattle.unit.specs.State.{lookup, insert, lastEnd, edge}
-use Rattle.unit.specs.Kinds.{isPage, hasBytes, isGone}
+use Rattle.unit.specs.State.{lookup, insert, lastEnd, edge, writtenEnd, writtenEdge}
+use Rattle.unit.specs.Kinds.{isPage, hasBytes, isGone, wasWritten}
 use Rattle.unit.specs.Unit.{written, sealedAt, says as unit-says, after as unit-after, report}
 use Rattle.sequencer.specs.Rules.{number, position, told, after as sequencer-after}
 use Rattle.client.specs.declared.UnitAsk.the-variants as unit-ask
@@ -77,7 +77,7 @@ record Ran : Type 0 where
 
 -- by the rules, computed; the first read's end is `read-ends` of RunExample
 computed : Ran
-unfolding rising goodSet goodSets goodSpans firstAtZero used good _in?_ inSets usedFrom unitsOf padded layOf valueOf zeros tidyChain tidyChains blankRanges tidy goodValue placed setNumber setAt headOf tailOf after above placeAnswer unitsAt without badDrops emptied planned lastStart goodChains reorganiseAnswer plannedFor isOpen settleAnswer settled settledFirst startedAt offerAnswer offeredTo fetchedFrom sublist keepsSets keepsSpans lawful lookup insert lastEnd edge written sealedAt number position told sequencer-after idle sends dataLimit shapeFor writesAt writesOn beginTurn holds worksOn isShowable pageTaken awaited takes allSealed sealsOn reorganises largest within edgesTaken letters-without turned beginNumber begins served taken delivered delivers step kindOf bytesOf pageOf pageShown edged asking fetching offeringTo unitSays unitAfter serve freshUnits freshWorld worldBy isPage hasBytes isGone unit-says unit-after report
+unfolding rising goodSet goodSets goodSpans firstAtZero used good _in?_ inSets usedFrom unitsOf padded layOf valueOf zeros tidyChain tidyChains blankRanges tidy goodValue placed setNumber setAt headOf tailOf after above placeAnswer unitsAt without badDrops emptied planned lastStart goodChains reorganiseAnswer plannedFor isOpen settleAnswer settled settledFirst startedAt offerAnswer offeredTo fetchedFrom sublist keepsSets keepsSpans lawful lookup insert lastEnd edge writtenEnd writtenEdge written sealedAt number position told sequencer-after idle sends dataLimit shapeFor writesAt writesOn beginTurn holds worksOn isShowable pageTaken awaited takes allSealed sealsOn reorganises largest within edgesTaken letters-without turned beginNumber begins served taken delivered delivers step kindOf bytesOf pageOf pageShown edged asking fetching offeringTo unitSays unitAfter serve freshUnits freshWorld worldBy isPage hasBytes isGone wasWritten unit-says unit-after report
 computed = record {
   first-reached = record {
     earlier = all-of;

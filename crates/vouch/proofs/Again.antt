@@ -23,7 +23,7 @@ use Rattle.rule.specs.World.{World, clientAt, letterAt}
 use Rattle.rule.specs.Serve.{serve}
 use Rattle.rule.specs.Steps.{Done, request, answerTo, step}
 use Rattle.history.specs.Words.{Answer}
-use Rattle.vouch.specs.Runs.{Move, Moves, _≼_, result, world, worldBy}
+use Rattle.vouch.specs.Runs.{Move, Moves, _≼_, Stepping, result, resultBy, world, worldBy}
 use Rattle.vouch.specs.Runs.Moves.{_▸_}
 use Rattle.vouch.specs.Runs._≼_.{all-of, part-of}
 use Rattle.vouch.specs.Operations.{Asked}
@@ -41,14 +41,14 @@ use Rattle.vouch.proofs.Reaching.{reaches-out}
 use Rattle.vouch.proofs.Stated.{read-stated, demand-3}
 use Rattle.vouch.proofs.Forward.{Sound, offered-good}
 use Rattle.vouch.proofs.Reread.{tail}
-use Rattle.vouch.proofs.LastSentence.{job, W, ready-again, read, epoch-is, tells, last-sentence}
+use Rattle.vouch.proofs.LastSentence.{job, W, ready-again, read, epoch-is, tells, reorganised, last-sentence}
 
 -- ---- more moves
 
-pub goes-world : (l : Layout) (ms : Moves) {list : List Move} {d : Done} {w : World} → world l ms ≡ w → Goes step w list d → world l (ms ▸▸ list) ≡ d .world
+pub goes-world : {f : Stepping} (l : Layout) (ms : Moves) {list : List Move} {d : Done} {w : World} → worldBy f l ms ≡ w → Goes f w list d → worldBy f l (ms ▸▸ list) ≡ d .world
 unfolding worldBy _▸▸_
-goes-world l ms is (ends {m = m} a) = ap (λ z. result z m .world) is
-goes-world l ms is (goes {m = m} a b rest) = goes-world l (ms ▸ m) (ap (λ z. result z m .world) is) rest
+goes-world {f} l ms is (ends {m = m} a) = ap (λ z. resultBy f z m .world) is
+goes-world {f} l ms is (goes {m = m} a b rest) = goes-world l (ms ▸ m) (ap (λ z. resultBy f z m .world) is) rest
 
 within-more : (list : List Move) {ms₁ ms : Moves} → ms₁ ≼ ms → ms₁ ≼ (ms ▸▸ list)
 unfolding _▸▸_
@@ -100,8 +100,8 @@ module _ (l : Layout) (good : goodValue l ≡ true) (first : l .epoch .0 ≡ 1) 
   ms₂ = ms ▸▸ reorganising w c (job w c sound may j drops)
 
   reached : world l ms₂ ≡ after-it
-  unfolding last-sentence
-  reached = goes-world l ms refl (last-sentence w c sound may j drops p below .reorganise-goes)
+  unfolding last-sentence reorganised
+  reached = goes-world l ms refl (last-sentence w c sound may j drops p below .reorganised .goes)
 
   abbrev b : Move
   b = begin c (jobOf (Read p))
@@ -189,7 +189,7 @@ module _ (l : Layout) (good : goodValue l ≡ true) (first : l .epoch .0 ≡ 1) 
 
   -- by demand 3 of the reads of these moves
   pub again : {ms₀ : Moves} {m₀ : Move} {X : Page} → AppendDone step l ms₀ m₀ (p .0) X → (ms₀ ▸ m₀) ≼ ms → Again step l ms c (job w c sound may j drops) p X
-  unfolding last-sentence _▸▸_ exchanges reaches
+  unfolding last-sentence reorganised _▸▸_ exchanges reaches
   again {X = X} append before =
       let s = says o refl (tells w c sound may j drops p below .answers) in
       let ended : OrSealed step l ms₁ (p .0) X (result (world l ms₃) d .outcome)

@@ -29,7 +29,7 @@ use Rattle.vouch.proofs.Layouts.{mapOf}
 use Rattle.vouch.specs.Runs.{Move, Moves, _≼_, world}
 use Rattle.vouch.specs.Runs.Moves.{_▸_}
 use Rattle.vouch.specs.Demand.{AppendDone}
-use Rattle.vouch.specs.LastSentence.{Conditions, DropsStopped, Again, LastSentence}
+use Rattle.vouch.specs.LastSentence.{Conditions, DropsStopped, Reorganised, Again, LastSentence}
 use Rattle.history.proofs.Epochs.{laid-by, held-laid}
 use Rattle.history.proofs.Settled.{settled-later}
 use Rattle.vouch.proofs.GoodMap.{good-map, unit-within}
@@ -40,6 +40,7 @@ use Rattle.vouch.proofs.Writing.{empty-answers}
 use Rattle.vouch.proofs.Coming.{come, outcome-of}
 use Rattle.vouch.proofs.Stated.{append-fields}
 use Rattle.vouch.proofs.Forward.{Sound}
+use Rattle.vouch.proofs.LastSentence.{reorganised}
 use Rattle.vouch.proofs.Again.{again}
 use Rattle.vouch.proofs.Soundness.{sound-of, stopped-long}
 
@@ -82,6 +83,10 @@ module _ (l : Layout) (good : goodValue l ≡ true) (first : l .epoch .0 ≡ 1) 
   again-so {ms = ms} {c = c} {j} {p} {X} append before may drops =
       subst (λ (k : Job). Again step l ms c k p X) (same-job j drops) (again l good first ms c (sound-at ms) may j drops p (appended-below append) append before)
 
+  reorganises-so : (ms : Moves) {c : ℕ} {j : Job} → Conditions (world l ms) c → DropsStopped (world l ms) j → Reorganised step (world l ms) c j
+  reorganises-so ms {c} {j} may drops =
+      subst (λ (k : Job). Reorganised step (world l ms) c k) (same-job j drops) (reorganised (world l ms) c (sound-at ms) may j drops)
+
   -- "If each set still has a working unit, one undisturbed reorganise that drops the stopped ones makes the page answerable again."
   pub last-sentence : LastSentence step l
-  last-sentence = record { answerable-again = again-so }
+  last-sentence = record { reorganises = reorganises-so; answerable-again = again-so }

@@ -150,9 +150,9 @@ again-called {b = b} {c} {j} {p} ran again =
     let is = again .answerable in
     record {
       again = again;
-      reorganise-comes = subst (λ (z : World). Comes b (reorganising z c j) (is .reorganised)) (sym (ran-seen ran)) (comes ran refl (is .reorganise-goes));
+      reorganise-comes = subst (λ (z : World). Comes b (reorganising z c j) (is .reorganised .done)) (sym (ran-seen ran)) (comes ran refl (is .reorganised .goes));
       read-comes = λ {rs} {b₁} calls.
-          let came = calls-come ran refl (is .reorganise-goes) (subst (λ (z : World). Calls b (reorganising z c j) rs b₁) (ran-seen ran) calls) in
+          let came = calls-come ran refl (is .reorganised .goes) (subst (λ (z : World). Calls b (reorganising z c j) rs b₁) (ran-seen ran) calls) in
           let there = ran-seen (came .ran) ∙ came .world-is in
           subst (λ (z : World). Comes b₁ (reading z c p) (is .was-read)) (sym there) (comes (came .ran) (came .world-is) (is .read-goes));
     }

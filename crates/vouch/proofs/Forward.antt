@@ -32,7 +32,7 @@ use Rattle.unit.specs.State.{State, edges}
 use Rattle.unit.specs.Memory.{valid}
 use Rattle.unit.specs.Unit.{freshUnit, says, after as unit-after, report}
 use Rattle.unit.specs.Unit.Request.{seal}
-use Rattle.unit.proofs.Lasting.{lasts, seal-rest}
+use Rattle.unit.proofs.Lasting.{lasts, seal-rest, seal-edges}
 use Rattle.sequencer.specs.declared.Sequencer.{Sequencer}
 use Rattle.sequencer.specs.declared.Asked.the-variants.{Start}
 use Rattle.sequencer.specs.declared.Told.the-variants.{Number}
@@ -87,7 +87,7 @@ module _ (w : World) (c : ℕ) (sound : Sound w) (may : Conditions w c) where
   pub plan-is : plannedFor (w .held) (stoppedUnits w) (noChange .wish) ≡ record { answer = 0; layout = offered }
   plan-is = sym (planned-fine (w .held) (stoppedUnits w) (noChange .wish) offered reorganise-none refl)
 
-  pub start-is : (e : Edges) → startedAt offered e ≡ record { answer = 0; layout = offered; first = e .edge }
+  pub start-is : (e : Edges) → startedAt offered e ≡ record { answer = 0; layout = offered; first = e .written }
   unfolding startAnswer firstFree planned
   start-is e = plan-started held-lay (stoppedUnits w) [] e held-good plan-fine
 
@@ -144,6 +144,7 @@ pub record Kept (sh : Shape) (e : ℕ) (old new : State) : Type 0 where
   pub low : new .sealed ≤ e
   pub floor-same : new .floor ≡ old .floor
   pub slots-same : new .slots ≡ old .slots
+  pub edges-same : edges new ≡ edges old
 
 pub record UnitsOn (w : World) (us : List State) : Type 0 where
   pub eight : length us ≡ 8
@@ -152,7 +153,7 @@ pub record UnitsOn (w : World) (us : List State) : Type 0 where
 pub units-at-first : (w : World) → Sound w → UnitsOn w (w .units)
 units-at-first w sound = record {
   eight = sound .eight-units;
-  kept = λ u low high. record { is-valid = sound .unit-valid u low high; low = sound .unit-low u low high; floor-same = refl; slots-same = refl };
+  kept = λ u low high. record { is-valid = sound .unit-valid u low high; low = sound .unit-low u low high; floor-same = refl; slots-same = refl; edges-same = refl };
 }
 
 seal-says : (sh : Shape) (M : State) (e : Epoch) → M .sealed ≤ e .0 → says sh M (seal e) ≡ 0
@@ -172,6 +173,7 @@ seal-keeps {sh} {e} {old} {M} few k =
       low = omega (arith, s .sealed (seal-says sh M _ (k .low)));
       floor-same = floor ∙ k .floor-same;
       slots-same = slots ∙ k .slots-same;
+      edges-same = seal-edges sh M _ (seal-says sh M _ (k .low)) .1 ∙ k .edges-same;
     }
 
 module _ (w : World) (us : List State) (u : ℕ) (few : w .held .epoch .0 ≤ lastEpoch) (on : UnitsOn w us) (low : 1 ≤ u) (high : u ≤ 8) where

@@ -51,7 +51,8 @@ module _ (w : World) (c : ℕ) (sound : Sound w) (may : Conditions w c) where
 
   -- ---- the end
 
-  pub record EndsWell (d : Done) : Type 0 where
+  -- first: where the sequencer counts on
+  pub record EndsWell (first : ℕ) (d : Done) : Type 0 where
     pub who : d .who ≡ c
     pub done : d .outcome .number ≡ 0
     pub last-units : List State
@@ -60,15 +61,16 @@ module _ (w : World) (c : ℕ) (sound : Sound w) (may : Conditions w c) where
     pub used : Request
     pub world-is : d .world ≡ yard w c (w .letters) plan last-units last-sequencer (idle life used) []
     pub units-on : UnitsOn w last-units
+    pub counts-on : last-sequencer .next .0 ≡ first
     pub left : used .0 + 2 ≤ lastNumber
 
   -- the turn t leads there with n requests
-  pub record Comes (us : List State) (t : Turn) (n : ℕ) : Type 0 where
+  pub record Comes (us : List State) (t : Turn) (n first : ℕ) : Type 0 where
     pub end : Done
     pub run : GoesOn w c (w .letters) k us s t (exchanges n (length (w .letters))) end
-    pub well : EndsWell end
+    pub well : EndsWell first end
 
-  pub comes-as : {us : List State} {t t′ : Turn} {n : ℕ} → t ≡ t′ → Comes us t′ n → Comes us t n
+  pub comes-as : {us : List State} {t t′ : Turn} {n first : ℕ} → t ≡ t′ → Comes us t′ n first → Comes us t n first
   comes-as same r = record { end = r .end; run = as-turn w c (w .letters) same (r .run); well = r .well }
 
   -- ---- the start
@@ -116,7 +118,7 @@ module _ (w : World) (c : ℕ) (sound : Sound w) (may : Conditions w c) where
         (sends-on w c (w .letters) y₁ (plain (ask.Start (plan .epoch) p)) start-left
         (exchange-ends w c (w .letters) (may .is-client) (sound .four-clients) (may .few-letters) start-asked last-turn start-taken))
 
-    start-well : EndsWell last-done
+    start-well : EndsWell (p .0) last-done
     start-well = record {
       who = refl;
       done = refl;
@@ -126,6 +128,7 @@ module _ (w : World) (c : ℕ) (sound : Sound w) (may : Conditions w c) where
       used = next y;
       world-is = refl;
       units-on = on;
+      counts-on = refl;
       left = omega (arith, left);
     }
 
@@ -134,7 +137,7 @@ module _ (w : World) (c : ℕ) (sound : Sound w) (may : Conditions w c) where
   module _ (us : List State) (y : Client) (e : Edges) (on : UnitsOn w us) (plans : y .plan ≡ plan) (under : goodValue (y .layout) ≡ true) (few : Within limit e) (left : y .used .0 + 4 ≤ lastNumber) where
     -- where the sequencer is to start
     abbrev p : Position
-    p = e .edge
+    p = e .written
 
     abbrev y₂ : Client
     y₂ = inPhase (planning y plan) (Offering p)
@@ -167,14 +170,14 @@ module _ (w : World) (c : ℕ) (sound : Sound w) (may : Conditions w c) where
     plan-after : x₂ .plan ≡ plan
     plan-after = refl
 
-    pub offer-comes : Comes us (allSealed y e) 2
+    pub offer-comes : Comes us (allSealed y e) 2 (p .0)
     unfolding exchanges
     offer-comes = record {
-      end = last-done us x₂ p on plan-after under (few .edge) start-left-after;
+      end = last-done us x₂ p on plan-after under (few .written) start-left-after;
       run =
           as-turn w c (w .letters) offers-so
           (sends-on w c (w .letters) y₂ (offering plan) offer-left
           (exchange-on w c (w .letters) (may .is-client) (sound .four-clients) (may .few-letters) offer-asked
-          (as-turn w c (w .letters) offer-taken (start-goes us x₂ p on plan-after under (few .edge) start-left-after))));
-      well = start-well us x₂ p on plan-after under (few .edge) start-left-after;
+          (as-turn w c (w .letters) offer-taken (start-goes us x₂ p on plan-after under (few .written) start-left-after))));
+      well = start-well us x₂ p on plan-after under (few .written) start-left-after;
     }

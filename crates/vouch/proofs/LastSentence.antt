@@ -10,13 +10,14 @@ use lib.Dec.{leb}
 use lib.ListN.{length, length-set, length-append}
 use lib.Seq.{getD-set-same}
 use Rattle.num.specs.Limits.{limit}
+use Rattle.num.specs.declared.Edges.{Edges}
 use Rattle.num.specs.Edges.{noEdges}
 use Rattle.num.specs.declared.Epoch.{Epoch}
 use Rattle.num.specs.declared.Position.{Position}
 use Rattle.num.proofs.Tests.{and-both}
 use Rattle.layout.specs.declared.plan.Planned.{Planned}
 use Rattle.layout.specs.declared.Layout.{Layout}
-use Rattle.layout.specs.Lay.{Lay, good, _in?_}
+use Rattle.layout.specs.Lay.{Lay, good, rising, _in?_, unitsOf}
 use Rattle.layout.specs.Value.{layOf, valueOf}
 use Rattle.layout.specs.Places.{setAt, tailOf}
 use Rattle.layout.proofs.ValueOf.{value-of-good}
@@ -25,7 +26,7 @@ use Rattle.layout.proofs.GoodSets.{is-good-set}
 use Rattle.layout.proofs.SetNumber.{set-at-good}
 use Rattle.layout.proofs.UnitsOf.{at-in-units, units-rise}
 use Rattle.layout.proofs.HeadAndTail.{tail-in}
-use Rattle.layout.proofs.Rising.{rising-within}
+use Rattle.layout.proofs.Rising.{rises, rising-within}
 use Rattle.unit.specs.declared.shape.Shape.{Shape}
 use Rattle.unit.specs.State.{State}
 use Rattle.unit.specs.Unit.{Report, says, report}
@@ -53,7 +54,7 @@ use Rattle.client.proofs.Turns.{plan-cases}
 use Rattle.rule.specs.World.{World, shapeUnder, running, clientAt, unitAt}
 use Rattle.rule.specs.Serve.{pageOf}
 use Rattle.rule.specs.Steps.{Done, step}
-use Rattle.vouch.specs.LastSentence.{Goes, begin, exchanges, newLayout, unitCount, reorganising, Conditions, DropsStopped, tailIn, tailAsked, tailSays, tailShows, Answering, ReadsTail, Answerable}
+use Rattle.vouch.specs.LastSentence.{Goes, begin, exchanges, newLayout, unitCount, reorganising, Conditions, DropsStopped, tailIn, tailAsked, tailSays, tailShows, Answering, ReadsTail, largestWritten, Reorganised, Answerable}
 use Rattle.vouch.specs.LastSentence.Answering.{page, trimmed, unwritten}
 use Rattle.vouch.proofs.Drops.{any-plan}
 use Rattle.vouch.proofs.Exchange.{yard, as-turn}
@@ -133,9 +134,9 @@ module _ (w : World) (c : ℕ) (sound : Sound w) (may : Conditions w c) (j : Job
   abbrev us : List ℕ
   us = units w c sound may
 
-  pub comes : Comes w c sound may (w .units) (sealsOn y 0 noEdges) (requests us)
+  pub comes : Comes w c sound may (w .units) (sealsOn y 0 noEdges) (requests us) (largestWritten w us)
   comes =
-      seals-come w c sound may (walk-all 0 us (units-rise (newLayout w .sets))) (w .units) y noEdges (units-at-first w sound) way (record { edge = omega arith })
+      seals-come w c sound may (walk-all 0 us (units-rise (newLayout w .sets))) (w .units) y noEdges (largestWritten w us) (omega arith) (units-at-first w sound) way (record { edge = omega arith; written = omega arith })
       (omega (arith, requests-count us, used-one, may .numbers-left))
 
   pub reorganise-goes : Goes step w (reorganising w c job) (comes .end)
@@ -147,7 +148,7 @@ module _ (w : World) (c : ℕ) (sound : Sound w) (may : Conditions w c) (j : Job
 
   -- ---- the yard after it
 
-  pub well : EndsWell w c sound may (comes .end)
+  pub well : EndsWell w c sound may (largestWritten w us) (comes .end)
   well = comes .well
 
   abbrev pub W : World
@@ -158,6 +159,25 @@ module _ (w : World) (c : ℕ) (sound : Sound w) (may : Conditions w c) (j : Job
 
   pub ended-so : comes .end ≡ ended
   ended-so = ap (λ (z : World). record { answer = comes .end .answer; who = comes .end .who; outcome = comes .end .outcome; world = z }) (well .world-is)
+
+  -- its units have the written edges that they had
+  pub written-kept : (low : ℕ) (vs : List ℕ) → rising low vs ≡ true → largestWritten W vs ≡ largestWritten w vs
+  unfolding largestWritten
+  written-kept low [] r = refl
+  written-kept low (v ∷ vs) r =
+      let s = rises low v vs r in
+      let k = well .units-on .kept v (omega (arith, s .from)) (s .within) in
+      rw (ap (λ (x : Edges). x .written .0) (k .edges-same), written-kept v vs (s .rest))
+
+  unfoldable pub reorganised : Reorganised step w c job
+  reorganised = record {
+    done = ended;
+    goes = subst (λ (d : Done). Goes step w (reorganising w c job) d) ended-so reorganise-goes;
+    ends = well .who;
+    fine = well .done;
+    in-force = offered-lay w c sound may;
+    counts-on = well .counts-on ∙ (sym (written-kept 0 us (units-rise (newLayout w .sets))) ∙ sym (ap (λ (k : Lay). largestWritten W (unitsOf (k .sets))) (offered-lay w c sound may)));
+  }
 
   client-is : clientAt W c ≡ idle (well .life) (well .used)
   client-is =
@@ -260,14 +280,5 @@ module _ (w : World) (c : ℕ) (sound : Sound w) (may : Conditions w c) (j : Job
 
     -- "n + 3 requests, each delivered once and dropped, as is its answer, with no other step between, end in done; two more make the read"
     unfoldable pub last-sentence : Answerable step w c job p
-    last-sentence = record {
-      reorganised = ended;
-      reorganise-goes = subst (λ (d : Done). Goes step w (reorganising w c job) d) ended-so reorganise-goes;
-      reorganise-ends = well .who;
-      reorganise-done = well .done;
-      in-force = offered-lay w c sound may;
-      was-read = read .done;
-      read-goes = read .run;
-      read-ends = read .who;
-      read-tells = tells;
-    }
+    unfolding reorganised
+    last-sentence = record { reorganised = reorganised; was-read = read .done; read-goes = read .run; read-ends = read .who; read-tells = tells }

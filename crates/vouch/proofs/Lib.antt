@@ -67,5 +67,6 @@ pub mod LargeExample
 pub mod Wrapped
 pub mod ShamRuns
 pub mod Shams
+pub mod CountSham
 -- Over runs of the code.
 pub mod CodeRuns

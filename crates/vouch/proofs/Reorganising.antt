@@ -3,7 +3,7 @@
 use mathlib.Core.Path.{_≡_, refl, sym, ap, subst, _∙_}
 use mathlib.Core.Bool.{true}
 use mathlib.Core.List.{List, [], _∷_}
-use Prim.Native.Nat.{ℕ, suc, _+_, _-_, _≤_, _<_}
+use Prim.Native.Nat.{ℕ, suc, _+_, _-_, _≤_, _<_, max}
 use native.Mathlib.Omega.{arith}
 use borrow.Author.Tests.{leb-true}
 use lib.Dec.{leb}
@@ -19,7 +19,7 @@ use Rattle.layout.specs.Lay.{Lay, _in?_, unitsOf}
 use Rattle.layout.specs.Value.{layOf, goodValue}
 use Rattle.layout.specs.Places.{above}
 use Rattle.layout.proofs.NextUnit.{above-next}
-use Rattle.unit.specs.State.{State, edges}
+use Rattle.unit.specs.State.{State, writtenEdge, edges}
 use Rattle.unit.specs.Unit.{freshUnit, after as unit-after}
 use Rattle.unit.specs.Unit.Request.{seal}
 use Rattle.unit.proofs.Lasting.{edges-within}
@@ -37,9 +37,9 @@ use Rattle.client.specs.Way.{unitAbove}
 use Rattle.client.specs.Reorganise.{allSealed, seals, sealsOn}
 use Rattle.client.specs.Take.{answered}
 use Rattle.client.proofs.Turns.{seal-cases, edges-cases, works-good}
-use Rattle.rule.specs.World.{World, shapeUnder, isUnit, running}
+use Rattle.rule.specs.World.{World, shapeUnder, isUnit, running, unitAt}
 use Rattle.rule.specs.Serve.{bare, atUnit, unitSays, unitAfter, serve}
-use Rattle.vouch.specs.LastSentence.{exchanges, Conditions}
+use Rattle.vouch.specs.LastSentence.{exchanges, largestWritten, Conditions}
 use Rattle.vouch.proofs.Exchange.{not-so, waiting, as-turn, sends-on, Asked, exchange-on}
 use Rattle.vouch.proofs.Forward.{Sound, offered, offered-lay, units, units-work, Walk, UnitsOn, seal-tells, seal-on}
 use Rattle.vouch.proofs.Installing.{Comes, comes-as, offer-comes}
@@ -49,6 +49,10 @@ use Rattle.vouch.proofs.Forward.Walk.{walk-end, walk-next}
 unfoldable pub requests : List ℕ → ℕ
 requests [] = 2
 requests (u ∷ us) = suc (requests us)
+
+largest-written : (a b : Edges) → largest a b .written .0 ≡ max (a .written .0) (b .written .0)
+unfolding largest
+largest-written a b = refl
 
 module _ (w : World) (c : ℕ) (sound : Sound w) (may : Conditions w c) where
   abbrev plan : Layout
@@ -119,6 +123,9 @@ module _ (w : World) (c : ℕ) (sound : Sound w) (may : Conditions w c) where
     told-few : Within limit told
     told-few = edges-within (shapeUnder k) M (on .kept v (is .low) (is .high) .is-valid)
 
+    told-same : told .written .0 ≡ writtenEdge (unitAt w v)
+    told-same = ap (λ (x : Edges). x .written .0) (on .kept v (is .low) (is .high) .edges-same)
+
     seal-taken : answered (y₃ .stage) x₃ (bare (Edged told)) ≡ sealsOn x₃ v (largest e told)
     seal-taken =
         works-good x₃ (Sealing v e) (Edged told) noPage (under y way)
@@ -133,7 +140,7 @@ module _ (w : World) (c : ℕ) (sound : Sound w) (may : Conditions w c) where
     used-on : x₃ .used .0 ≡ y .used .0 + 1
     used-on = refl
 
-    seal-comes : {n : ℕ} → y .used .0 < lastNumber → Comes w c sound may sealed-units (sealsOn x₃ v (largest e told)) n → Comes w c sound may us (seals y v e) (suc n)
+    seal-comes : {n first : ℕ} → y .used .0 < lastNumber → Comes w c sound may sealed-units (sealsOn x₃ v (largest e told)) n first → Comes w c sound may us (seals y v e) (suc n) first
     unfolding exchanges
     seal-comes {n} left rest = record {
       end = rest .end;
@@ -147,17 +154,19 @@ module _ (w : World) (c : ℕ) (sound : Sound w) (may : Conditions w c) where
 
   -- ---- all seals, and what follows
 
-  pub seals-come : {u : ℕ} {rest : List ℕ} → Walk (units w c sound may) u rest → (us : List State) (y : Client) (e : Edges) → UnitsOn w us → OnWay y → Within limit e →
-      y .used .0 + (requests rest + 2) ≤ lastNumber → Comes w c sound may us (sealsOn y u e) (requests rest)
-  unfolding requests
-  seals-come {u} (walk-end none) us y e on way few left =
+  -- first: the largest of the written edges told so far and of those of the units that are left
+  pub seals-come : {u : ℕ} {rest : List ℕ} → Walk (units w c sound may) u rest → (us : List State) (y : Client) (e : Edges) (first : ℕ) → max (e .written .0) (largestWritten w rest) ≡ first →
+      UnitsOn w us → OnWay y → Within limit e → y .used .0 + (requests rest + 2) ≤ lastNumber → Comes w c sound may us (sealsOn y u e) (requests rest) first
+  unfolding requests largestWritten
+  seals-come {u} (walk-end none) us y e first counts on way few left =
       comes-as w c sound may (seal-cases (λ (t : Turn). t ≡ allSealed y e) y u e (λ last. refl) (λ some. absurd (some (next-unit y u (way .plan-is) ∙ none))))
-      (offer-comes w c sound may us y e on (way .plan-is) (under y way) few left)
-  seals-come {u} (walk-next {v = v} {vs = vs} is lt rest) us y e on way few left =
+      (subst (λ n. Comes w c sound may us (allSealed y e) 2 n) (omega (arith, counts)) (offer-comes w c sound may us y e on (way .plan-is) (under y way) few left))
+  seals-come {u} (walk-next {v = v} {vs = vs} is lt rest) us y e first counts on way few left =
       let works = next-works u v is lt in
       let at : unitAbove (y .plan) u ≡ v = next-unit y u (way .plan-is) ∙ is in
       comes-as w c sound may
       (seal-cases (λ (t : Turn). t ≡ seals y v e) y u e (λ none. absurd (omega (arith, at, none))) (λ some. ap (λ z. seals y z e) at))
       (seal-comes us y v e on way works few (omega (arith, left))
-      (seals-come rest (sealed-units us y v e on way works few) (x₃ us y v e on way works few) (largest e (told us y v e on way works few))
+      (seals-come rest (sealed-units us y v e on way works few) (x₃ us y v e on way works few) (largest e (told us y v e on way works few)) first
+      (omega (arith, counts, largest-written e (told us y v e on way works few), told-same us y v e on way works few))
       (seal-on w us v epoch-few on (works .low) (works .high)) (way-on us y v e on way works few) (largest-few us y v e on way works few) (omega (arith, left, used-on us y v e on way works few))))

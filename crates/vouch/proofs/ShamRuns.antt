@@ -19,8 +19,8 @@ use Rattle.layout.specs.Plan.{without, badDrops, emptied, planned, lastStart, g
 use Rattle.layout.specs.Holder.{offerAnswer, offeredTo, fetchedFrom}
 use Rattle.layout.specs.Successor.{sublist, keepsSets, keepsSpans, lawful}
 use Rattle.unit.specs.Shape.{shapeFor}
-use Rattle.unit.specs.State.{lookup, insert, lastEnd, edge}
-use Rattle.unit.specs.Kinds.{isPage, hasBytes, isGone}
+use Rattle.unit.specs.State.{lookup, insert, lastEnd, edge, writtenEnd, writtenEdge}
+use Rattle.unit.specs.Kinds.{isPage, hasBytes, isGone, wasWritten}
 use Rattle.unit.specs.Unit.{written, sealedAt, says as unit-says, after as unit-after, report}
 use Rattle.sequencer.specs.Rules.{number, position, told, after as sequencer-after}
 use Rattle.client.specs.declared.Ask.the-variants as ask
@@ -84,7 +84,7 @@ pub record Swapped : Type 0 where
   pub reached : Reaches step l asked-first deliver both deliver 0 1
 
 pub swapped-run : Swapped
-unfolding rising goodSet goodSets goodSpans firstAtZero used good _in?_ inSets usedFrom unitsOf padded layOf valueOf zeros tidyChain tidyChains blankRanges tidy goodValue placed setNumber setAt headOf tailOf after above placeAnswer unitsAt without badDrops emptied planned lastStart goodChains reorganiseAnswer plannedFor isOpen settleAnswer settled settledFirst startedAt offerAnswer offeredTo fetchedFrom sublist keepsSets keepsSpans lawful lookup insert lastEnd edge written sealedAt number position told sequencer-after idle sends dataLimit shapeFor writesAt writesOn beginTurn holds worksOn isShowable pageTaken pageCarried awaited takes allSealed sealsOn reorganises largest within edgesTaken letters-without turned beginNumber begins served taken delivered delivers step kindOf bytesOf pageOf pageShown edged asking fetching offeringTo unitSays unitAfter serve freshUnits freshWorld worldBy fillsOn isPage hasBytes isGone unit-says unit-after report
+unfolding rising goodSet goodSets goodSpans firstAtZero used good _in?_ inSets usedFrom unitsOf padded layOf valueOf zeros tidyChain tidyChains blankRanges tidy goodValue placed setNumber setAt headOf tailOf after above placeAnswer unitsAt without badDrops emptied planned lastStart goodChains reorganiseAnswer plannedFor isOpen settleAnswer settled settledFirst startedAt offerAnswer offeredTo fetchedFrom sublist keepsSets keepsSpans lawful lookup insert lastEnd edge writtenEnd writtenEdge written sealedAt number position told sequencer-after idle sends dataLimit shapeFor writesAt writesOn beginTurn holds worksOn isShowable pageTaken pageCarried awaited takes allSealed sealsOn reorganises largest within edgesTaken letters-without turned beginNumber begins served taken delivered delivers step kindOf bytesOf pageOf pageShown edged asking fetching offeringTo unitSays unitAfter serve freshUnits freshWorld worldBy fillsOn isPage hasBytes isGone wasWritten unit-says unit-after report
 swapped-run =
     let taken-it : letterAt (world l both) 0 ≡ shows-7 = refl in
     let given : lastLetter (world l reading) ≡ shows-7 = refl in
@@ -160,7 +160,7 @@ pub record Astray : Type 0 where
   pub second-returns : outcome elsewhere l honest deliver ≡ returned 1 junkPage
 
 pub astray-run : Astray
-unfolding rising goodSet goodSets goodSpans firstAtZero used good _in?_ inSets usedFrom unitsOf padded layOf valueOf zeros tidyChain tidyChains blankRanges tidy goodValue placed setNumber setAt headOf tailOf after above placeAnswer unitsAt without badDrops emptied planned lastStart goodChains reorganiseAnswer plannedFor isOpen settleAnswer settled settledFirst startedAt offerAnswer offeredTo fetchedFrom sublist keepsSets keepsSpans lawful lookup insert lastEnd edge written sealedAt number position told sequencer-after idle sends dataLimit shapeFor writesAt writesOn beginTurn holds worksOn isShowable pageTaken pageCarried awaited takes allSealed sealsOn reorganises largest within edgesTaken letters-without turned beginNumber begins served taken delivered delivers step kindOf bytesOf pageOf pageShown edged asking fetching offeringTo unitSays unitAfter serve freshUnits freshWorld worldBy fillsOn isPage hasBytes isGone unit-says unit-after report
+unfolding rising goodSet goodSets goodSpans firstAtZero used good _in?_ inSets usedFrom unitsOf padded layOf valueOf zeros tidyChain tidyChains blankRanges tidy goodValue placed setNumber setAt headOf tailOf after above placeAnswer unitsAt without badDrops emptied planned lastStart goodChains reorganiseAnswer plannedFor isOpen settleAnswer settled settledFirst startedAt offerAnswer offeredTo fetchedFrom sublist keepsSets keepsSpans lawful lookup insert lastEnd edge writtenEnd writtenEdge written sealedAt number position told sequencer-after idle sends dataLimit shapeFor writesAt writesOn beginTurn holds worksOn isShowable pageTaken pageCarried awaited takes allSealed sealsOn reorganises largest within edgesTaken letters-without turned beginNumber begins served taken delivered delivers step kindOf bytesOf pageOf pageShown edged asking fetching offeringTo unitSays unitAfter serve freshUnits freshWorld worldBy fillsOn isPage hasBytes isGone wasWritten unit-says unit-after report
 astray-run = record {
   first-ends = record {
     client = 2;
@@ -216,7 +216,7 @@ pub record Lost : Type 0 where
   pub number-is : outcome losing l (lost-asked ▸ deliver) deliver .number ≡ 7
 
 pub lost-run : Lost
-unfolding rising goodSet goodSets goodSpans firstAtZero used good _in?_ inSets usedFrom unitsOf padded layOf valueOf zeros tidyChain tidyChains blankRanges tidy goodValue placed setNumber setAt headOf tailOf after above placeAnswer unitsAt without badDrops emptied planned lastStart goodChains reorganiseAnswer plannedFor isOpen settleAnswer settled settledFirst startedAt offerAnswer offeredTo fetchedFrom sublist keepsSets keepsSpans lawful lookup insert lastEnd edge written sealedAt number position told sequencer-after idle sends dataLimit shapeFor writesAt writesOn beginTurn holds worksOn isShowable pageTaken noRefusal awaited takes allSealed sealsOn reorganises largest within edgesTaken letters-without turned beginNumber begins served taken delivered delivers step kindOf bytesOf pageOf pageShown edged asking fetching offeringTo unitSays unitAfter serve freshUnits freshWorld worldBy otherwise isPage hasBytes isGone unit-says unit-after report
+unfolding rising goodSet goodSets goodSpans firstAtZero used good _in?_ inSets usedFrom unitsOf padded layOf valueOf zeros tidyChain tidyChains blankRanges tidy goodValue placed setNumber setAt headOf tailOf after above placeAnswer unitsAt without badDrops emptied planned lastStart goodChains reorganiseAnswer plannedFor isOpen settleAnswer settled settledFirst startedAt offerAnswer offeredTo fetchedFrom sublist keepsSets keepsSpans lawful lookup insert lastEnd edge writtenEnd writtenEdge written sealedAt number position told sequencer-after idle sends dataLimit shapeFor writesAt writesOn beginTurn holds worksOn isShowable pageTaken noRefusal awaited takes allSealed sealsOn reorganises largest within edgesTaken letters-without turned beginNumber begins served taken delivered delivers step kindOf bytesOf pageOf pageShown edged asking fetching offeringTo unitSays unitAfter serve freshUnits freshWorld worldBy otherwise isPage hasBytes isGone wasWritten unit-says unit-after report
 lost-run = record {
   acknowledged = record {
     client = 1;
@@ -291,7 +291,7 @@ pub record Stale : Type 0 where
   pub number-is : outcome stale l (given-up ▸ begin 2 late) deliver .number ≡ 7
 
 pub stale-run : Stale
-unfolding rising goodSet goodSets goodSpans firstAtZero used good _in?_ inSets usedFrom unitsOf padded layOf valueOf zeros tidyChain tidyChains blankRanges tidy goodValue placed setNumber setAt headOf tailOf after above placeAnswer unitsAt without badDrops emptied planned lastStart goodChains reorganiseAnswer plannedFor isOpen settleAnswer settled settledFirst startedAt offerAnswer offeredTo fetchedFrom sublist keepsSets keepsSpans lawful lookup insert lastEnd edge written sealedAt number position told sequencer-after idle sends dataLimit shapeFor writesAt writesOn beginTurn holds worksOn isShowable pageTaken noRefusal awaited takes allSealed sealsOn reorganises largest within edgesTaken letters-without turned beginNumber begins served taken delivered delivers step kindOf bytesOf pageOf pageShown edged asking fetching offeringTo unitSays unitAfter serve freshUnits freshWorld worldBy otherwise giveUp givesUp isPage hasBytes isGone unit-says unit-after report
+unfolding rising goodSet goodSets goodSpans firstAtZero used good _in?_ inSets usedFrom unitsOf padded layOf valueOf zeros tidyChain tidyChains blankRanges tidy goodValue placed setNumber setAt headOf tailOf after above placeAnswer unitsAt without badDrops emptied planned lastStart goodChains reorganiseAnswer plannedFor isOpen settleAnswer settled settledFirst startedAt offerAnswer offeredTo fetchedFrom sublist keepsSets keepsSpans lawful lookup insert lastEnd edge writtenEnd writtenEdge written sealedAt number position told sequencer-after idle sends dataLimit shapeFor writesAt writesOn beginTurn holds worksOn isShowable pageTaken noRefusal awaited takes allSealed sealsOn reorganises largest within edgesTaken letters-without turned beginNumber begins served taken delivered delivers step kindOf bytesOf pageOf pageShown edged asking fetching offeringTo unitSays unitAfter serve freshUnits freshWorld worldBy otherwise giveUp givesUp isPage hasBytes isGone wasWritten unit-says unit-after report
 stale-run = record {
   late-ends = later (begun (record { does-begin = refl; job-is = refl; not-refused = refl }) (not-yet two refl)) refl;
   number-is = refl;

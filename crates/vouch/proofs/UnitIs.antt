@@ -2,7 +2,7 @@
 -- Rests on the unit's and the yard's rules, and on specs/Events, Edges and Safety.
 use mathlib.Core.Path.{_≡_}
 use mathlib.Core.Bool.{true, cond}
-use Prim.Native.Nat.{ℕ, _≤_}
+use Prim.Native.Nat.{ℕ}
 use lib.Dec.{eqb}
 use Rattle.num.specs.declared.Edges.{Edges}
 use Rattle.layout.specs.Value.{blank}

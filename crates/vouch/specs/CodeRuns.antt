@@ -75,7 +75,7 @@ pub record Comes (b : Lent) (moves : List Move) (d : Done) : Type 0 where
 -- "one undisturbed reorganise that drops the stopped ones makes the page answerable again": the reorganise's calls over b, and then the read's, come to what `Again` says
 pub record AgainCalled (l : Layout) (ms : Moves) (b : Lent) (c : ℕ) (j : Job) (p : Position) (X : Page) : Type 0 where
   pub again : Again step l ms c j p X
-  pub reorganise-comes : Comes b (reorganising (seen b) c j) (again .answerable .reorganised)
+  pub reorganise-comes : Comes b (reorganising (seen b) c j) (again .answerable .reorganised .done)
   pub read-comes : {rs : List Stepped} {b₁ : Lent} → Calls b (reorganising (seen b) c j) rs b₁ → Comes b₁ (reading (seen b₁) c p) (again .answerable .was-read)
 
 -- ---- demand 3 of a run of the code, in a yard of shape sh

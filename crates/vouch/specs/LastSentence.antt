@@ -1,5 +1,5 @@
 -- Demand 3's last sentence: "If each set still has a working unit, one undisturbed reorganise that drops the stopped ones makes the page answerable again." (docs/RULES.md, 11)
-use Prim.Native.Nat.{ℕ, zero, suc, _+_, _≤_, _<_}
+use Prim.Native.Nat.{ℕ, zero, suc, _+_, _≤_, _<_, max}
 use mathlib.Core.Path.{_≡_}
 use mathlib.Core.Bool.{Bool, true, false, not, cond}
 use mathlib.Core.List.{List, [], _∷_}
@@ -12,6 +12,7 @@ use Rattle.layout.specs.Lay.{Lay, _in?_, unitsOf}
 use Rattle.layout.specs.Value.{layOf}
 use Rattle.layout.specs.Places.{setAt, tailOf}
 use Rattle.layout.specs.Plan.{planned}
+use Rattle.unit.specs.State.{writtenEdge}
 use Rattle.unit.specs.Unit.{Request, says, report}
 use Rattle.unit.specs.Unit.Request.{read}
 use Rattle.client.specs.declared.Page.{Page}
@@ -138,15 +139,25 @@ pub record ReadsTail (w : World) (p : Position) (o : Outcome) : Type 0 where
   pub position-is : o .position ≡ p
   pub epoch-is : o .epoch .0 ≡ newLayout w .epoch
 
--- The reorganise ends in done with the new layout in force, and a read after it in what the tail has.
+-- the largest written edge of these units of a yard
+unfoldable pub largestWritten : World → List ℕ → ℕ
+largestWritten w [] = 0
+largestWritten w (u ∷ us) = max (writtenEdge (unitAt w u)) (largestWritten w us)
+
+-- The reorganise ends in done, with the new layout in force and the sequencer's count at the largest written edge of its units.
+pub record Reorganised (f : Stepping) (w : World) (c : ℕ) (j : Job) : Type 0 where
+  pub done : Done
+  pub goes : Goes f w (reorganising w c j) done
+  pub ends : done .who ≡ c
+  pub fine : done .outcome .number ≡ 0
+  pub in-force : layOf (done .world .held) ≡ newLayout w
+  pub counts-on : done .world .sequencer .next .0 ≡ largestWritten (done .world) (unitsOf (layOf (done .world .held) .sets))
+
+-- A read after it ends in what the tail has.
 pub record Answerable (f : Stepping) (w : World) (c : ℕ) (j : Job) (p : Position) : Type 0 where
-  pub reorganised : Done
-  pub reorganise-goes : Goes f w (reorganising w c j) reorganised
-  pub reorganise-ends : reorganised .who ≡ c
-  pub reorganise-done : reorganised .outcome .number ≡ 0
-  pub in-force : layOf (reorganised .world .held) ≡ newLayout w
+  pub reorganised : Reorganised f w c j
   pub was-read : Done
-  pub read-goes : Goes f (reorganised .world) (reading (reorganised .world) c p) was-read
+  pub read-goes : Goes f (reorganised .done .world) (reading (reorganised .done .world) c p) was-read
   pub read-ends : was-read .who ≡ c
   pub read-tells : ReadsTail w p (was-read .outcome)
 
@@ -161,9 +172,10 @@ ms ▸▸ (m ∷ rest) = (ms ▸ m) ▸▸ rest
 -- Where an append of X at p is done among the moves ms: the read ends with X, or with "trimmed" if a trim of p or a prune above p was asked for.
 pub record Again (f : Stepping) (l : Layout) (ms : Moves) (c : ℕ) (j : Job) (p : Position) (X : Page) : Type 0 where
   pub answerable : Answerable f (worldBy f l ms) c j p
-  pub rightly : Rightly f l (ms ▸▸ reorganising (worldBy f l ms) c j ▸▸ reading (answerable .reorganised .world) c p) (p .0) X (answerable .was-read .outcome)
+  pub rightly : Rightly f l (ms ▸▸ reorganising (worldBy f l ms) c j ▸▸ reading (answerable .reorganised .done .world) c p) (p .0) X (answerable .was-read .outcome)
 
--- the last sentence of demand 3, of any step function
+-- the last sentence of demand 3, of any step function; the first field, whatever was appended
 pub record LastSentence (f : Stepping) (l : Layout) : Type 0 where
+  pub reorganises : (ms : Moves) {c : ℕ} {j : Job} → Conditions (worldBy f l ms) c → DropsStopped (worldBy f l ms) j → Reorganised f (worldBy f l ms) c j
   pub answerable-again : {ms₀ ms : Moves} {m₀ : Move} {c : ℕ} {j : Job} {p : Position} {X : Page} → AppendDone f l ms₀ m₀ (p .0) X → (ms₀ ▸ m₀) ≼ ms →
       Conditions (worldBy f l ms) c → DropsStopped (worldBy f l ms) j → Again f l ms c j p X

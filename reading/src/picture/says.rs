@@ -5,7 +5,7 @@ use crate::client::{Job, Outcome};
 use crate::layout::Layout;
 use crate::letter::{Ask, Reply};
 use crate::no::{self, No};
-use crate::unit::Page;
+use crate::unit::{Edges, Page};
 
 /// As many letters as a label has room for.
 const ROOM: usize = 22;
@@ -69,7 +69,7 @@ pub fn ask(ask: &Ask) -> String {
         Ask::Seal { epoch, .. } => format!("seal {epoch}"),
         Ask::Offer { layout } => format!("offer {}", layout.epoch),
         Ask::Start { epoch, position } => format!("start {epoch} at {position}"),
-        Ask::EdgeOnly { .. } => "edge".into(),
+        Ask::EdgesOnly { .. } => "edges".into(),
     }
 }
 
@@ -79,7 +79,8 @@ pub fn reply(reply: &Reply) -> String {
         Reply::Given(position) => format!("token {position}"),
         Reply::Fine => "fine".into(),
         Reply::Shown(shown) => page(shown),
-        Reply::Edge(edge) => format!("edge {edge}"),
+        Reply::Edges(Edges { edge, written }) if edge == written => format!("edge {edge}"),
+        Reply::Edges(Edges { edge, written }) => short(format!("edge {edge}, written {written}")),
         Reply::Refused(refused) => number(*refused),
     }
 }
