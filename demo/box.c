@@ -1,9 +1,9 @@
 /*
  * A station box that keeps fixes of birds in its unit, and the unit's memory in a file: box FOLDER
  *
- * It makes the memory fresh, writes fixes, starts again from the file, reads the fixes back, trims, prunes and seals, shows
- * each refusal by its name, and keeps a mast record in a second box. It prints an account of all this, and ends with 1
- * where something is not as it should be.
+ * It makes the memory fresh, writes fixes, starts again from the file, reads the fixes back, trims and prunes, tells its edges,
+ * seals, shows each refusal by its name, and keeps a mast record in a second box. It prints an account of all this, and ends
+ * with 1 where something is not as it should be.
  */
 #define _POSIX_C_SOURCE 200809L
 #include <fcntl.h>
@@ -258,10 +258,19 @@ static void seal(struct box *box, uint32_t epoch)
     uint8_t answer = unit_seal(box->mem, STATION_MEMORY, epoch, &edge, &written);
     snprintf(what, sizeof what, "seal epoch %" PRIu32, epoch);
     changed(box, what, answer);
-    if (answer == UNIT_ANSWER_FINE)
-        printf("      the edge is %" PRIu64 ", the written edge %" PRIu64 "\n", edge, written);
-    else if (edge != 99 || written != 99)
+    if (answer != UNIT_ANSWER_FINE && (edge != 99 || written != 99))
         stop("a refused seal changed an edge");
+}
+
+/* Asks for the edges: a good memory tells them, sealed or not, and stays as it is. */
+static void edges(const struct box *box)
+{
+    uint64_t edge, written;
+    uint8_t answer = unit_edges(box->mem, STATION_MEMORY, &edge, &written);
+    tell("ask for the edges", answer);
+    if (answer != UNIT_ANSWER_FINE)
+        stop("a good memory told no edges");
+    printf("      the edge is %" PRIu64 ", the written edge %" PRIu64 "\n", edge, written);
 }
 
 /* ---- the parts of the account */
@@ -306,6 +315,15 @@ static void trim_and_prune(struct box *box)
     changed(box, "prune to 1, below the floor", unit_prune(box->mem, STATION_MEMORY, 1, 1));
 }
 
+/* The box is asked while it works: the epoch goes on. */
+static void watching(struct box *box)
+{
+    printf("\nThe night watch asks for the edges, and stops no writer.\n");
+    edges(box);
+    write_fix(box, "write 4 in epoch 1", 1, 4, &stork);
+    edges(box);
+}
+
 static void sealing(struct box *box)
 {
     printf("\nThe layout changes, and epoch 1 is over.\n");
@@ -314,6 +332,7 @@ static void sealing(struct box *box)
     write_fix(box, "write 7 in epoch 2", 2, 7, &vulture);
     seal(box, 1);
     seal(box, 0);
+    edges(box);
     restart(box);
     read_none(box, 1, 7);
     read_fix(box, 2, 7, &vulture);
@@ -326,7 +345,7 @@ static void bad_memories(const struct box *box)
     uint64_t edge = 99, written = 99;
     tell("seal 6167 of the bytes", unit_seal(bad.mem, STATION_MEMORY - 1, 2, &edge, &written));
     bad.mem[STATION_MEMORY - 1] = 1;
-    tell("seal with a stray byte in an unused slot", unit_seal(bad.mem, STATION_MEMORY, 2, &edge, &written));
+    tell("the edges with a stray byte in an unused slot", unit_edges(bad.mem, STATION_MEMORY, &edge, &written));
     bad.mem[STATION_MEMORY - 1] = 0;
     if (edge != 99 || written != 99 || memcmp(bad.mem, box->mem, STATION_MEMORY) != 0)
         stop("a bad memory was changed");
@@ -368,7 +387,7 @@ static void filling(struct box *box)
     write_junk(box, "write the next", 2, p);
     restart(box);
     read_empty(box, 2, p, UNIT_KIND_JUNK);
-    seal(box, 2);
+    edges(box);
 }
 
 static void mast(struct box *box)
@@ -400,6 +419,7 @@ int main(int argc, char **argv)
     settle(&mast_box, argv[1], 4);
     pages(&box);
     trim_and_prune(&box);
+    watching(&box);
     sealing(&box);
     refusals(&box);
     filling(&box);

@@ -127,6 +127,12 @@ uint8_t unit_prune(uint8_t *mem, size_t len, uint32_t epoch, uint64_t position);
  */
 uint8_t unit_seal(uint8_t *mem, size_t len, uint32_t epoch, uint64_t *edge, uint64_t *written);
 
+/*
+ * Tells the same two edges of any good memory, sealed or not, and changes nothing: it bears no epoch, and stops no writer.
+ * Answers: FINE, MEMORY.
+ */
+uint8_t unit_edges(const uint8_t *mem, size_t len, uint64_t *edge, uint64_t *written);
+
 #ifdef __cplusplus
 }
 #endif

@@ -45,7 +45,7 @@ fn random_calls<const SLOT: usize>(tries: usize) -> [usize; ANSWERS] {
 fn every_byte<const SLOT: usize>() -> (usize, usize) {
     let sides = sides();
     let mut memory = draw::half_full::<SLOT>();
-    let call = Call::Seal { epoch: u32::MAX };
+    let call = Call::Edges;
     assert_eq!(answer(&sides, &memory, &call), 0);
     let changes = [1, 0x80, 0xFF];
     let mut refused = 0;

@@ -28,6 +28,7 @@ pub enum Call {
     Seal {
         epoch: u32,
     },
+    Edges,
 }
 
 /// What a call gives: its answer, and the outputs after it.
@@ -54,6 +55,7 @@ impl Call {
             Call::Trim { epoch, position } => unit_call::Call::Trim { epoch, position },
             Call::Prune { epoch, position } => unit_call::Call::Prune { epoch, position },
             Call::Seal { epoch } => unit_call::Call::Seal { epoch },
+            Call::Edges => unit_call::Call::Edges,
         }
     }
 
@@ -86,6 +88,12 @@ impl Call {
                 let mut outputs = Outputs::UNTOUCHED;
                 let Outputs { edge, written, .. } = &mut outputs;
                 let answer = (side.seal)(mem, black_box(epoch), edge, written);
+                Seen { answer, outputs }
+            }),
+            Call::Edges => Box::new(move |mem| {
+                let mut outputs = Outputs::UNTOUCHED;
+                let Outputs { edge, written, .. } = &mut outputs;
+                let answer = (side.edges)(mem, edge, written);
                 Seen { answer, outputs }
             }),
         }

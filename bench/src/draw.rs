@@ -104,7 +104,7 @@ pub fn call<const SLOT: usize>(random: &mut Random, memory: &[u8]) -> Call {
     let epochs =
         [sealed.saturating_add(1), sealed.saturating_add(1), sealed.saturating_add(1), sealed, random.one_of(&EPOCHS)];
     let epoch = random.one_of(&epochs);
-    match random.below(6) {
+    match random.below(7) {
         0 | 1 => {
             let kind = random.one_of(&[1, 1, 1, 1, 2, 2, 0, 3]);
             let data = match random.below(8) {
@@ -118,6 +118,7 @@ pub fn call<const SLOT: usize>(random: &mut Random, memory: &[u8]) -> Call {
         2 => Call::Read { epoch, positions: vec![position] },
         3 => Call::Trim { epoch, position },
         4 => Call::Prune { epoch, position },
-        _ => Call::Seal { epoch: epoch.wrapping_sub(random.below(2) as u32) },
+        5 => Call::Seal { epoch: epoch.wrapping_sub(random.below(2) as u32) },
+        _ => Call::Edges,
     }
 }

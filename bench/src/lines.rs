@@ -83,6 +83,7 @@ fn lines<const SLOT: usize>(pages: Pages) -> Vec<Line> {
         line(format!("trim the middle of {all}"), all, Call::Trim { epoch, position: middle }),
         line(format!("prune {} of {all}", all / 2), all, Call::Prune { epoch, position: middle }),
         line(format!("seal, {all} used"), all, Call::Seal { epoch }),
+        line(format!("edges, {all} used"), all, Call::Edges),
     ]
 }
 

@@ -14,6 +14,7 @@ pub struct Side {
     pub trim: fn(&mut [u8], u32, u64) -> u8,
     pub prune: fn(&mut [u8], u32, u64) -> u8,
     pub seal: fn(&mut [u8], u32, &mut u64, &mut u64) -> u8,
+    pub edges: fn(&[u8], &mut u64, &mut u64) -> u8,
 }
 
 const OURS: Side = Side {
@@ -23,6 +24,7 @@ const OURS: Side = Side {
     trim: library::trim,
     prune: library::prune,
     seal: library::seal,
+    edges: library::edges,
 };
 
 /// Whether a memory says that it is a large unit's.
@@ -59,9 +61,14 @@ impl<V: Version<SMALL> + Version<LARGE>> Either<V> {
         seal(mem, epoch, edge, written)
     }
 
+    fn edges(mem: &[u8], edge: &mut u64, written: &mut u64) -> u8 {
+        let edges = if large(mem) { unit::edges::<V, LARGE> } else { unit::edges::<V, SMALL> };
+        edges(mem, edge, written)
+    }
+
     const fn side(name: &'static str) -> Side {
-        let (write, read) = (Either::<V>::write, Either::<V>::read);
-        Side { name, write, read, trim: Either::<V>::trim, prune: Either::<V>::prune, seal: Either::<V>::seal }
+        let (write, read, trim, prune) = (Either::<V>::write, Either::<V>::read, Either::<V>::trim, Either::<V>::prune);
+        Side { name, write, read, trim, prune, seal: Either::<V>::seal, edges: Either::<V>::edges }
     }
 }
 

@@ -210,3 +210,10 @@ pub fn seal<V: Version<SLOT>, const SLOT: usize>(mem: &mut [u8], epoch: u32, edg
     *to = written::<SLOT>(mem, &header);
     0
 }
+
+pub fn edges<V: Version<SLOT>, const SLOT: usize>(mem: &[u8], edge: &mut u64, to: &mut u64) -> u8 {
+    let Some(header) = V::check(mem) else { return 1 };
+    *edge = header.edge;
+    *to = written::<SLOT>(mem, &header);
+    0
+}

@@ -51,11 +51,16 @@ impl Unit {
         self.call(Call::Prune { epoch: 1, position }).answer
     }
 
-    /// The answer of a seal, and both edges where there are any.
-    fn seal(&mut self, epoch: u32) -> (No, Option<(u64, u64)>) {
-        let after = self.call(Call::Seal { epoch });
-        let told = (after.outputs.edge, after.outputs.written);
-        (after.answer, Some(told).filter(|told| *told != (Outputs::UNTOUCHED.edge, Outputs::UNTOUCHED.written)))
+    fn seal(&mut self, epoch: u32) -> No {
+        self.call(Call::Seal { epoch }).answer
+    }
+
+    /// Both edges, by the edge request, which leaves every byte.
+    fn edges(&mut self) -> (u64, u64) {
+        let before = self.memory.clone();
+        let after = self.call(Call::Edges);
+        assert_eq!((after.answer, &after.memory), (no::FINE, &before));
+        (after.outputs.edge, after.outputs.written)
     }
 }
 
@@ -87,17 +92,18 @@ fn the_longest_page(unit: &mut Unit) {
 }
 
 fn sealing(unit: &mut Unit) {
-    assert_eq!(unit.seal(1), (0, Some((0, 0))));
+    assert_eq!(unit.seal(1), 0);
+    assert_eq!(unit.edges(), (0, 0));
     assert_eq!(unit.write(1, 0, 1), 4);
     assert_eq!(unit.write(2, 0, 1), 0);
-    assert_eq!(unit.seal(1), (0, Some((1, 1))));
-    assert_eq!(unit.seal(0), (4, None));
+    assert_eq!(unit.seal(1), 0);
+    assert_eq!(unit.seal(0), 4);
 }
 
 fn trimming(unit: &mut Unit) {
     assert_eq!(unit.trim(5), 0);
     assert_eq!(unit.write(1, 5, 1), 5);
-    assert_eq!(unit.seal(1), (0, Some((6, 0))));
+    assert_eq!(unit.edges(), (6, 0));
 }
 
 fn a_full_unit(unit: &mut Unit) {
@@ -115,7 +121,7 @@ fn pruning(unit: &mut Unit) {
     assert_eq!(unit.prune(3), 0);
     assert_eq!(unit.prune(2), 0);
     assert_eq!(unit.memory[8..16], 3u64.to_le_bytes());
-    assert_eq!(unit.seal(1), (0, Some((3, 3))));
+    assert_eq!(unit.edges(), (3, 3));
 }
 
 /// In the order in which they are marked.

@@ -52,7 +52,7 @@ impl Cell {
     }
 }
 
-/// The two numbers that a seal answers.
+/// The two numbers that an edge request answers, and a seal.
 #[derive(Clone, Copy, Debug, Default, PartialEq, Eq)]
 pub struct Edges {
     /// It bounds the start of a new range.
@@ -95,6 +95,7 @@ impl Unit {
         past_last.max(self.floor)
     }
 
+    /// The edge request: it bears no epoch, and a unit that works tells both.
     pub fn edges(&self) -> Edges {
         Edges { edge: self.edge(), written: self.written_edge() }
     }

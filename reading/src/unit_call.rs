@@ -2,7 +2,7 @@
 
 use crate::memory::{decode, encode, fresh, payload_at};
 use crate::no::{self, No};
-use crate::unit::Unit;
+use crate::unit::{Edges, Unit};
 
 /// A call, with the numbers and bytes as C passes them.
 #[derive(Clone, PartialEq, Eq, Debug)]
@@ -13,6 +13,7 @@ pub enum Call {
     Trim { epoch: u32, position: u64 },
     Prune { epoch: u32, position: u64 },
     Seal { epoch: u32 },
+    Edges,
 }
 
 impl Call {
@@ -25,6 +26,7 @@ impl Call {
             Call::Trim { .. } => "trim",
             Call::Prune { .. } => "prune",
             Call::Seal { .. } => "seal",
+            Call::Edges => "edges",
         }
     }
 }
@@ -44,6 +46,10 @@ impl Outputs {
     /// Something that no call gives.
     pub const UNTOUCHED: Outputs =
         Outputs { kind: 0xEE, start: 0xDEAD_0001, length: 0xDEAD_0002, edge: u64::MAX, written: u64::MAX - 1 };
+
+    fn tell(&mut self, edges: Edges) {
+        (self.edge, self.written) = (edges.edge, edges.written);
+    }
 }
 
 /// All that a caller can see after a call.
@@ -81,10 +87,8 @@ fn accepted(memory: &[u8], call: &Call, mut outputs: Outputs) -> Result<(Unit, O
         }
         Call::Trim { epoch, position } => unit.trim(epoch, position)?,
         Call::Prune { epoch, position } => unit.prune(epoch, position)?,
-        Call::Seal { epoch } => {
-            let told = unit.seal(epoch)?;
-            (outputs.edge, outputs.written) = (told.edge, told.written);
-        }
+        Call::Seal { epoch } => outputs.tell(unit.seal(epoch)?),
+        Call::Edges => outputs.tell(unit.edges()),
     }
     Ok((unit, outputs))
 }

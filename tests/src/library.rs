@@ -24,6 +24,7 @@ pub(crate) mod c {
         pub fn unit_trim(mem: *mut u8, len: usize, epoch: u32, position: u64) -> u8;
         pub fn unit_prune(mem: *mut u8, len: usize, epoch: u32, position: u64) -> u8;
         pub fn unit_seal(mem: *mut u8, len: usize, epoch: u32, edge: *mut u64, written: *mut u64) -> u8;
+        pub fn unit_edges(mem: *const u8, len: usize, edge: *mut u64, written: *mut u64) -> u8;
     }
 }
 
@@ -52,4 +53,8 @@ pub fn prune(mem: &mut [u8], epoch: u32, position: u64) -> u8 {
 
 pub fn seal(mem: &mut [u8], epoch: u32, edge: &mut u64, written: &mut u64) -> u8 {
     unsafe { c::unit_seal(mem.as_mut_ptr(), mem.len(), epoch, edge, written) }
+}
+
+pub fn edges(mem: &[u8], edge: &mut u64, written: &mut u64) -> u8 {
+    unsafe { c::unit_edges(mem.as_ptr(), mem.len(), edge, written) }
 }

@@ -1,7 +1,7 @@
 //! A call made on the proved library.
 
 use crate::fence::lent;
-use crate::library::{fresh, prune, read, seal, trim, write};
+use crate::library::{edges, fresh, prune, read, seal, trim, write};
 use reading::unit_call::{After, Call, Outputs};
 
 /// What is seen after a call, by the library.
@@ -15,6 +15,7 @@ pub fn after(memory: &[u8], call: &Call, mut outputs: Outputs) -> After {
         Call::Trim { epoch, position } => trim(mem, epoch, position),
         Call::Prune { epoch, position } => prune(mem, epoch, position),
         Call::Seal { epoch } => seal(mem, epoch, &mut outputs.edge, &mut outputs.written),
+        Call::Edges => edges(mem, &mut outputs.edge, &mut outputs.written),
     });
     After { answer, outputs, memory }
 }

@@ -73,5 +73,6 @@ pub fn probes(unit: &Unit) -> Vec<Call> {
         Call::Trim { epoch, position: edge },
         Call::Prune { epoch, position: first + 1 },
         Call::Seal { epoch },
+        Call::Edges,
     ]
 }

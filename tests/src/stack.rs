@@ -110,6 +110,10 @@ pub fn after(paint: u8, memory: &[u8], call: &Call, mut outputs: Outputs) -> (Af
             let [edge, written]: [*mut u64; 2] = [&mut outputs.edge, &mut outputs.written];
             (c::unit_seal as _, [mem, len, epoch.into(), edge as u64, written as u64, 0, 0, 0])
         }
+        Call::Edges => {
+            let [edge, written]: [*mut u64; 2] = [&mut outputs.edge, &mut outputs.written];
+            (c::unit_edges as _, [mem, len, edge as u64, written as u64, 0, 0, 0, 0])
+        }
     };
     // the words are those that the library's declarations have, and what they point to outlives the call; the answer is a byte
     let (answer, depth) = unsafe { on_paint(paint, function, &words) };

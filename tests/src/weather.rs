@@ -11,19 +11,19 @@ pub struct Weather {
     pub name: &'static str,
     /// The floor that a sequence begins with.
     pub floor: u64,
-    /// Shares of fresh, write, read, trim, prune and seal.
-    pub shares: [u64; 6],
+    /// Shares of fresh, write, read, trim, prune, seal and edges.
+    pub shares: [u64; 7],
     /// Of a thousand epochs or positions, how many are chosen without a look at the unit.
     pub wild: u64,
 }
 
 pub const WEATHERS: [Weather; 6] = [
-    Weather { name: "filling", floor: 0, shares: [1, 1200, 400, 150, 10, 15], wild: 0 },
-    Weather { name: "turning over", floor: 70_000, shares: [1, 500, 150, 100, 100, 20], wild: 0 },
-    Weather { name: "trimming", floor: 0, shares: [1, 250, 150, 500, 10, 10], wild: 0 },
-    Weather { name: "near the end", floor: LIMIT - 150, shares: [0, 600, 200, 150, 15, 10], wild: 20 },
-    Weather { name: "wild", floor: 0, shares: [10, 400, 200, 150, 60, 60], wild: 150 },
-    Weather { name: "crossing 2^32", floor: (1 << 32) - 60, shares: [0, 600, 200, 100, 10, 10], wild: 0 },
+    Weather { name: "filling", floor: 0, shares: [1, 1200, 400, 150, 10, 15, 30], wild: 0 },
+    Weather { name: "turning over", floor: 70_000, shares: [1, 500, 150, 100, 100, 20, 30], wild: 0 },
+    Weather { name: "trimming", floor: 0, shares: [1, 250, 150, 500, 10, 10, 30], wild: 0 },
+    Weather { name: "near the end", floor: LIMIT - 150, shares: [0, 600, 200, 150, 15, 10, 30], wild: 20 },
+    Weather { name: "wild", floor: 0, shares: [10, 400, 200, 150, 60, 60, 60], wild: 150 },
+    Weather { name: "crossing 2^32", floor: (1 << 32) - 60, shares: [0, 600, 200, 100, 10, 10, 30], wild: 0 },
 ];
 
 const EPOCHS: [u32; 6] = [0, 1, 2, 1 << 31, u32::MAX - 1, u32::MAX];
@@ -54,7 +54,8 @@ impl Weather {
             2 => Call::Read { epoch, position },
             3 => Call::Trim { epoch, position },
             4 => Call::Prune { epoch, position: self.floor_to_be(random, unit) },
-            _ => Call::Seal { epoch: self.sealed_to_be(random, unit) },
+            5 => Call::Seal { epoch: self.sealed_to_be(random, unit) },
+            _ => Call::Edges,
         }
     }
 

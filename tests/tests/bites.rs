@@ -48,9 +48,13 @@ fn no_work(memory: &[u8], call: &Call, outputs: Outputs) -> After {
     After { memory: memory.to_vec(), ..unit_call::after(memory, call, outputs) }
 }
 
+fn tells_edges(call: &Call) -> bool {
+    matches!(call, Call::Seal { .. } | Call::Edges)
+}
+
 fn made_up_edge(memory: &[u8], call: &Call, outputs: Outputs) -> After {
     let mut after = unit_call::after(memory, call, outputs);
-    if matches!(call, Call::Seal { .. }) && after.answer == 0 {
+    if tells_edges(call) && after.answer == 0 {
         after.outputs.edge = count(memory) as u64;
     }
     after
@@ -58,8 +62,31 @@ fn made_up_edge(memory: &[u8], call: &Call, outputs: Outputs) -> After {
 
 fn stray_trims_count_as_written(memory: &[u8], call: &Call, outputs: Outputs) -> After {
     let mut after = unit_call::after(memory, call, outputs);
-    if matches!(call, Call::Seal { .. }) && after.answer == 0 {
+    if tells_edges(call) && after.answer == 0 {
         after.outputs.written = after.outputs.edge;
+    }
+    after
+}
+
+fn edges_exchanged(memory: &[u8], call: &Call, outputs: Outputs) -> After {
+    let mut after = unit_call::after(memory, call, outputs);
+    if matches!(call, Call::Edges) && after.answer == 0 {
+        (after.outputs.edge, after.outputs.written) = (after.outputs.written, after.outputs.edge);
+    }
+    after
+}
+
+fn a_sealed_unit_tells_no_edges(memory: &[u8], call: &Call, outputs: Outputs) -> After {
+    match call {
+        Call::Edges if memory[4..8] != [0; 4] => After { answer: 4, outputs, memory: memory.to_vec() },
+        _ => unit_call::after(memory, call, outputs),
+    }
+}
+
+fn asking_for_edges_seals(memory: &[u8], call: &Call, outputs: Outputs) -> After {
+    let mut after = unit_call::after(memory, call, outputs);
+    if matches!(call, Call::Edges) {
+        after.memory[4] |= 1;
     }
     after
 }
@@ -73,7 +100,7 @@ fn only_pages_count_as_written(memory: &[u8], call: &Call, outputs: Outputs) -> 
     let mut seen = memory.to_vec();
     kinds(memory).filter(|at| memory[*at] == 3).for_each(|at| seen[at] = 4);
     let mut after = unit_call::after(memory, call, outputs);
-    if matches!(call, Call::Seal { .. }) {
+    if tells_edges(call) {
         after.outputs.written = unit_call::after(&seen, call, outputs).outputs.written;
     }
     after
@@ -213,7 +240,7 @@ fn is_caught(wrong: Side) -> bool {
 
 #[test]
 fn wrong_readings_are_caught() {
-    let wrong: [(&str, Side); 22] = [
+    let wrong: [(&str, Side); 25] = [
         ("junk_as_zeros", junk_as_zeros),
         ("junk_as_data", junk_as_data),
         ("payload_one_byte_late", payload_one_byte_late),
@@ -221,6 +248,9 @@ fn wrong_readings_are_caught() {
         ("no_work", no_work),
         ("made_up_edge", made_up_edge),
         ("stray_trims_count_as_written", stray_trims_count_as_written),
+        ("edges_exchanged", edges_exchanged),
+        ("a_sealed_unit_tells_no_edges", a_sealed_unit_tells_no_edges),
+        ("asking_for_edges_seals", asking_for_edges_seals),
         ("only_pages_count_as_written", only_pages_count_as_written),
         ("a_page_is_trimmed_to_kind_4", a_page_is_trimmed_to_kind_4),
         ("a_stray_position_is_written", a_stray_position_is_written),

@@ -67,6 +67,17 @@ fn seals() {
     }
 }
 
+/// Whatever a unit holds and however it is sealed, and not a byte of it changes.
+#[test]
+fn edges() {
+    for (name, unit) in units() {
+        let after = agree(&name, &encode(&unit), &Call::Edges, Outputs::UNTOUCHED);
+        let told = (after.outputs.edge, after.outputs.written);
+        assert_eq!((after.answer, told), (0, (unit.edge(), unit.written_edge())), "{name}");
+        assert!(after.memory == encode(&unit), "{name}: asked for its edges, and changed");
+    }
+}
+
 #[test]
 fn fresh_numbers() {
     for (name, unit) in units() {

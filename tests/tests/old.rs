@@ -86,7 +86,7 @@ fn it_goes_on_as_a_small_unit() {
 /// Nothing in it says that the last position was never written, so it counts as written.
 #[test]
 fn its_stray_trim_counts_as_written() {
-    let told = agree("the old memory", OLD, &Call::Seal { epoch: 1 }, Outputs::UNTOUCHED).outputs;
+    let told = agree("the old memory", OLD, &Call::Edges, Outputs::UNTOUCHED).outputs;
     assert_eq!((told.edge, told.written), ((1 << 33) + 1, (1 << 33) + 1));
 }
 

@@ -8,13 +8,14 @@ const SEEDS: u64 = 8;
 const STEPS: usize = 5_000;
 
 /// Each answer that each call can give to good memory of the right length.
-const POSSIBLE: [(&str, &[u8]); 6] = [
+const POSSIBLE: [(&str, &[u8]); 7] = [
     ("fresh", &[0, 10, 17]),
     ("write", &[0, 2, 3, 4, 5, 6, 8]),
     ("read", &[0, 2, 4, 5, 7]),
     ("trim", &[0, 2, 4, 8]),
     ("prune", &[0, 2, 4]),
     ("seal", &[0, 4]),
+    ("edges", &[0]),
 ];
 
 #[test]

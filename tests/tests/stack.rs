@@ -13,7 +13,8 @@ use std::hint::black_box;
 use std::mem::MaybeUninit;
 
 /// All answers of each entry, as include/station.h lists them.
-const ANSWERS: [(&str, &[u8]); 6] = [
+const ANSWERS: [(&str, &[u8]); 7] = [
+    ("edges", &[0, 1]),
     ("fresh", &[0, 1, 10, 17]),
     ("prune", &[0, 1, 2, 4]),
     ("read", &[0, 1, 2, 4, 5, 7]),
@@ -75,6 +76,7 @@ fn calls(unit: &Unit) -> Vec<Call> {
     let positions: BTreeSet<u64> = around.chain([LIMIT - 1, LIMIT, LIMIT + 1, u64::MAX]).collect();
     let epochs = BTreeSet::from([0, unit.sealed, unit.sealed.saturating_add(1), u32::MAX]);
     let mut calls = fresh_calls();
+    calls.push(Call::Edges);
     for epoch in epochs {
         calls.push(Call::Seal { epoch });
         for &position in &positions {

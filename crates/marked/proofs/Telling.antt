@@ -10,9 +10,9 @@ use Rattle.num.specs.declared.Edges.{Edges}
 use Rattle.num.specs.declared.Epoch.{Epoch}
 use Rattle.num.specs.declared.Position.{Position}
 use Rattle.unit.specs.State.{content}
-use Rattle.unit.specs.Unit.Request.{write, trim, prune}
-use Rattle.unit.specs.Promises.{IsFresh, IsAnswered, IsRead, IsSealed}
-use Rattle.marked.specs.declared.ask.Ask.the-variants.{Fresh, Write, Read, Trim, Prune, Seal, Fill, Floor, Place, Drop}
+use Rattle.unit.specs.Unit.Request.{write, trim, prune, seal}
+use Rattle.unit.specs.Promises.{IsFresh, IsAnswered, IsRead, IsMeasured}
+use Rattle.marked.specs.declared.ask.Ask.the-variants.{Fresh, Write, Read, Trim, Prune, Seal, Measure, Fill, Floor, Place, Drop}
 use Rattle.marked.specs.declared.ask.Told.{Told}
 use Rattle.marked.specs.Lays.{told, placeTold, dropTold}
 use Rattle.marked.specs.Asks.{sevens, dataAt, fillMemory, fillAnswer, toldOf, leftBy, IsTold, IsFilled}
@@ -37,6 +37,10 @@ module _ {m after : List ℕ} {answer : ℕ} {t : Told} where
   pub prune-told : {e : Epoch} {p : Position} → IsAnswered m (prune e p) answer after → t ≡ told answer 0 0 → IsTold m (Prune e p) t after
   unfolding toldOf leftBy
   prune-told x e = record { told-is = e ∙ told-eq (x .answer-is) refl refl; memory-is = x .memory-is }
+
+  pub seal-told : {n : Epoch} → IsAnswered m (seal n) answer after → t ≡ told answer 0 0 → IsTold m (Seal n) t after
+  unfolding toldOf leftBy
+  seal-told x e = record { told-is = e ∙ told-eq (x .answer-is) refl refl; memory-is = x .memory-is }
 
   pub fill-told : {n : ℕ} → IsFilled m n answer after → t ≡ told answer 0 0 → IsTold m (Fill n) t after
   unfolding toldOf leftBy
@@ -74,7 +78,6 @@ pub read-told : {m : List ℕ} {e : Epoch} {p : Position} {answer kind start siz
 unfolding toldOf leftBy
 read-told x a k = record { told-is = told-eq (a ∙ x .answered .answer-is) (k ∙ x .kind-is) (x .length-is); memory-is = refl }
 
-pub seal-told : {m after : List ℕ} {n : Epoch} {answer a : ℕ} {edges : Edges} → IsSealed m n answer edges after → a ≡ answer
-    → IsTold m (Seal n) (told a (edges .edge .0) (edges .written .0)) after
+pub edges-told : {m : List ℕ} {answer a : ℕ} {edges : Edges} → IsMeasured m answer edges → a ≡ answer → IsTold m Measure (told a (edges .edge .0) (edges .written .0)) m
 unfolding toldOf leftBy
-seal-told x a = record { told-is = told-eq (a ∙ x .answered .answer-is) (ap (λ (s : Edges). s .edge .0) (x .edges-is)) (ap (λ (s : Edges). s .written .0) (x .edges-is)); memory-is = x .answered .memory-is }
+edges-told x a = record { told-is = told-eq (a ∙ x .answered .answer-is) (ap (λ (s : Edges). s .edge .0) (x .edges-is)) (ap (λ (s : Edges). s .written .0) (x .edges-is)); memory-is = refl }

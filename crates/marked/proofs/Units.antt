@@ -15,14 +15,14 @@ use Rattle.unit.specs.Shape.{shapeFor, shapeOf, named, memorySize, unitLimit}
 use Rattle.unit.specs.State.{State, content}
 use Rattle.unit.specs.Memory.{valid, decode, encode}
 use Rattle.unit.specs.Unit.{Request, freshUnit, becomes, says, after, report}
-use Rattle.unit.specs.Unit.Request.{write, read, trim, prune, seal}
+use Rattle.unit.specs.Unit.Request.{write, read, trim, prune, seal, measure}
 use Rattle.unit.specs.Rules.{freshAnswer, freshMemory, answer, memory, reported}
 use Rattle.unit.proofs.Goodness.{is-good}
 use Rattle.unit.specs.Holding.{Holds}
 use Rattle.unit.proofs.Shapes.{sized, for-known, names-shape}
 use Rattle.unit.proofs.Holding.{encode-holds, says-held, report-held}
 use Rattle.marked.specs.declared.ask.Ask.{Ask}
-use Rattle.marked.specs.declared.ask.Ask.the-variants.{Fresh, Write, Read, Trim, Prune, Seal, Fill, Floor, Place, Drop}
+use Rattle.marked.specs.declared.ask.Ask.the-variants.{Fresh, Write, Read, Trim, Prune, Seal, Measure, Fill, Floor, Place, Drop}
 use Rattle.marked.specs.declared.ask.Told.{Told}
 use Rattle.marked.specs.Lays.{told, placeTold, dropTold}
 use Rattle.marked.specs.Asks.{sevens, dataAt, fillMemory, fillAnswer, toldOf, leftBy}
@@ -53,7 +53,8 @@ tells sh u (Write e p kind size) = told (says sh u (write e p (content kind (sev
 tells sh u (Read e p) = told (says sh u (read e p)) (report sh u (read e p) .page .kind) (length (report sh u (read e p) .page .payload))
 tells sh u (Trim e p) = told (says sh u (trim e p)) 0 0
 tells sh u (Prune e p) = told (says sh u (prune e p)) 0 0
-tells sh u (Seal n) = told (says sh u (seal n)) (report sh u (seal n) .edges .edge .0) (report sh u (seal n) .edges .written .0)
+tells sh u (Seal n) = told (says sh u (seal n)) 0 0
+tells sh u Measure = told (says sh u measure) (report sh u measure .edges .edge .0) (report sh u measure .edges .written .0)
 tells sh u (Fill n) = told (filled sh u n .number) 0 0
 tells sh u Floor = told 0 (u .floor) 0
 tells sh u (Place p) = placeTold (p .0)
@@ -66,6 +67,7 @@ next sh u (Read e p) = u
 next sh u (Trim e p) = after sh u (trim e p)
 next sh u (Prune e p) = after sh u (prune e p)
 next sh u (Seal n) = after sh u (seal n)
+next sh u Measure = u
 next sh u (Fill n) = filled sh u n .unit
 next sh u Floor = u
 next sh u (Place p) = u
@@ -79,6 +81,7 @@ nextCode c (Read e p) = c
 nextCode c (Trim e p) = c
 nextCode c (Prune e p) = c
 nextCode c (Seal n) = c
+nextCode c Measure = c
 nextCode c (Fill n) = c
 nextCode c Floor = c
 nextCode c (Place p) = c
@@ -92,6 +95,7 @@ sure sh u (Read e p) = true
 sure sh u (Trim e p) = true
 sure sh u (Prune e p) = true
 sure sh u (Seal n) = true
+sure sh u Measure = true
 sure sh u (Fill n) = filled sh u n .all-valid
 sure sh u Floor = true
 sure sh u (Place p) = true
@@ -165,7 +169,8 @@ module _ (c : ℕ) where
   tells-right u h (Read e p) s = rw (request-number u h (read e p), request-report u h (read e p))
   tells-right u h (Trim e p) s = rw (request-number u h (trim e p))
   tells-right u h (Prune e p) s = rw (request-number u h (prune e p))
-  tells-right u h (Seal n) s = rw (request-number u h (seal n), request-report u h (seal n))
+  tells-right u h (Seal n) s = rw (request-number u h (seal n))
+  tells-right u h Measure s = rw (request-number u h measure, request-report u h measure)
   tells-right u h (Fill n) s = rw (fill-unit u n s .1)
   tells-right u h Floor s = rw (floor-bytes u h)
   tells-right u h (Place p) s = refl
@@ -179,6 +184,7 @@ module _ (c : ℕ) where
   leaves-next u h (Trim e p) s = request-unit u h (trim e p)
   leaves-next u h (Prune e p) s = request-unit u h (prune e p)
   leaves-next u h (Seal n) s = request-unit u h (seal n)
+  leaves-next u h Measure s = refl
   leaves-next u h (Fill n) s = fill-unit u n s .0
   leaves-next u h Floor s = refl
   leaves-next u h (Place p) s = refl

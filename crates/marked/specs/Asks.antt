@@ -10,10 +10,10 @@ use Rattle.unit.specs.Shape.{shapeOf}
 use Rattle.unit.specs.Kinds.{dataKind}
 use Rattle.unit.specs.State.{content}
 use Rattle.unit.specs.Unit.{Request}
-use Rattle.unit.specs.Unit.Request.{write, read, trim, prune, seal}
+use Rattle.unit.specs.Unit.Request.{write, read, trim, prune, seal, measure}
 use Rattle.unit.specs.Rules.{freshAnswer, freshMemory, answer, memory, reported}
 use Rattle.marked.specs.declared.ask.Ask.{Ask}
-use Rattle.marked.specs.declared.ask.Ask.the-variants.{Fresh, Write, Read, Trim, Prune, Seal, Fill, Floor, Place, Drop}
+use Rattle.marked.specs.declared.ask.Ask.the-variants.{Fresh, Write, Read, Trim, Prune, Seal, Measure, Fill, Floor, Place, Drop}
 use Rattle.marked.specs.declared.ask.Told.{Told}
 use Rattle.marked.specs.Lays.{told, placeTold, dropTold}
 
@@ -50,10 +50,11 @@ toldOf m (Read e p) =
     (length (reported (shapeOf m) m (read e p) .page .payload))
 toldOf m (Trim e p) = told (answer (shapeOf m) m (trim e p)) 0 0
 toldOf m (Prune e p) = told (answer (shapeOf m) m (prune e p)) 0 0
-toldOf m (Seal n) =
-    told (answer (shapeOf m) m (seal n))
-    (reported (shapeOf m) m (seal n) .edges .edge .0)
-    (reported (shapeOf m) m (seal n) .edges .written .0)
+toldOf m (Seal n) = told (answer (shapeOf m) m (seal n)) 0 0
+toldOf m Measure =
+    told (answer (shapeOf m) m measure)
+    (reported (shapeOf m) m measure .edges .edge .0)
+    (reported (shapeOf m) m measure .edges .written .0)
 toldOf m (Fill n) = told (fillAnswer m n) 0 0
 toldOf m Floor = told 0 (numberAt 8 8 m) 0
 toldOf m (Place p) = placeTold (p .0)
@@ -67,6 +68,7 @@ leftBy m (Read e p) = m
 leftBy m (Trim e p) = memory (shapeOf m) m (trim e p)
 leftBy m (Prune e p) = memory (shapeOf m) m (prune e p)
 leftBy m (Seal n) = memory (shapeOf m) m (seal n)
+leftBy m Measure = m
 leftBy m (Fill n) = fillMemory m n
 leftBy m Floor = m
 leftBy m (Place p) = m

@@ -4,7 +4,7 @@ use mathlib.Core.Bool.{cond}
 use mathlib.Core.List.{List, [], _∷_, _++_}
 use lib.Dec.{eqb}
 use Rattle.marked.specs.declared.ask.Ask.{Ask}
-use Rattle.marked.specs.declared.ask.Ask.the-variants.{Fresh, Write, Read, Trim, Prune, Seal, Fill, Floor, Place, Drop}
+use Rattle.marked.specs.declared.ask.Ask.the-variants.{Fresh, Write, Read, Trim, Prune, Seal, Measure, Fill, Floor, Place, Drop}
 use Rattle.marked.specs.declared.ask.Row.{Row}
 use Rattle.marked.specs.Table.{epoch, position}
 
@@ -20,6 +20,7 @@ askNumbers (Fill n) = 7 ∷ 1 ∷ n ∷ 0 ∷ 0 ∷ []
 askNumbers Floor = 8 ∷ 0 ∷ 0 ∷ 0 ∷ 0 ∷ []
 askNumbers (Place p) = 9 ∷ 0 ∷ p .0 ∷ 0 ∷ 0 ∷ []
 askNumbers (Drop a b k) = 10 ∷ a ∷ b ∷ 0 ∷ k ∷ []
+askNumbers Measure = 11 ∷ 0 ∷ 0 ∷ 0 ∷ 0 ∷ []
 
 -- the example, what is asked, what is told
 abbrev pub rowNumbers : Row → List ℕ
@@ -41,4 +42,5 @@ askOf asked e p kind size =
     (cond (eqb asked 7) (Fill p)
     (cond (eqb asked 9) (Place (position p))
     (cond (eqb asked 10) (Drop (e % 256) (p % 256) size)
-    Floor))))))))
+    (cond (eqb asked 11) Measure
+    Floor)))))))))

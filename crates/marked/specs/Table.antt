@@ -1,6 +1,5 @@
 -- The marked examples of docs/RULES.md, 13: what each row asks, and what must be answered. Examples 1 to 9 each start with a fresh unit 1, and stand once, for either shape.
 -- 10 and 11 ask of a layout; a set's units are shown as a number, a byte each, lowest first.
--- Edges that an example names are shown by a seal of the epoch at which the unit is sealed already.
 use Prim.Native.Nat.{ℕ, _+_, _*_, _-_}
 use mathlib.Core.List.{List, [], _∷_, _++_}
 use Rattle.num.specs.Limits.{limit}
@@ -9,7 +8,7 @@ use Rattle.num.specs.declared.Position.{Position}
 use Rattle.unit.specs.declared.shape.Shape.{Shape}
 use Rattle.unit.specs.Shape.{small, large}
 use Rattle.marked.specs.declared.ask.Ask.{Ask}
-use Rattle.marked.specs.declared.ask.Ask.the-variants.{Fresh, Write, Read, Trim, Prune, Seal, Fill, Floor, Place, Drop}
+use Rattle.marked.specs.declared.ask.Ask.the-variants.{Fresh, Write, Read, Trim, Prune, Seal, Measure, Fill, Floor, Place, Drop}
 use Rattle.marked.specs.declared.ask.Told.{Told}
 use Rattle.marked.specs.declared.ask.Row.{Row}
 use Rattle.marked.specs.Lays.{told}
@@ -92,15 +91,16 @@ unitRows sh =
     ∷ row 5 (bytes 1 0 (sh .cap)) (answers 0)
     ∷ row 5 (bytes 1 0 (sh .cap + 1)) (answers 3)
     ∷ row 6 (Fresh 1 (sh .code)) (answers 0)
-    ∷ row 6 (seal 1) (edges 0 0)
+    ∷ row 6 (seal 1) (answers 0)
+    ∷ row 6 Measure (edges 0 0)
     ∷ row 6 (bytes 1 0 0) (answers 4)
     ∷ row 6 (bytes 2 0 0) (answers 0)
-    ∷ row 6 (seal 1) (edges 1 1)
+    ∷ row 6 (seal 1) (answers 0)
     ∷ row 6 (seal 0) (answers 4)
     ∷ row 7 (Fresh 1 (sh .code)) (answers 0)
     ∷ row 7 (trim 1 5) (answers 0)
     ∷ row 7 (bytes 1 5 0) (answers 5)
-    ∷ row 7 (seal 0) (edges 6 0)
+    ∷ row 7 Measure (edges 6 0)
     ∷ row 8 (Fresh 1 (sh .code)) (answers 0)
     ∷ row 8 (Fill (sh .room)) (answers 0)
     ∷ row 8 (bytes 1 (sh .room) 0) (answers 8)
@@ -112,7 +112,7 @@ unitRows sh =
     ∷ row 9 (prune 1 3) (answers 0)
     ∷ row 9 (prune 1 2) (answers 0)
     ∷ row 9 Floor (stands 3)
-    ∷ row 9 (seal 0) (edges 3 3)
+    ∷ row 9 Measure (edges 3 3)
     ∷ []
 
 abbrev layoutRows : List Row
@@ -128,7 +128,7 @@ layoutRows =
     ∷ []
 
 abbrev pub count : ℕ
-count = 82
+count = 84
 
 -- the unit's examples in both shapes
 unfoldable pub rows : List Row

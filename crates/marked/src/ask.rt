@@ -11,6 +11,8 @@ pub enum Ask {
     Trim(Epoch, Position),
     Prune(Epoch, Position),
     Seal(Epoch),
+    // The edge request.
+    Measure,
     // A data page of no bytes at each of so many positions, from 0 on, in epoch 1.
     Fill(u64),
     // The floor, which no request tells: its bytes in the memory.
@@ -21,7 +23,7 @@ pub enum Ask {
     Drop(u8, u8, usize),
 }
 
-// The number answered; of a read also the kind and the length, of a seal the edge and the written edge, of the floor the floor; of a position the
+// The number answered; of a read also the kind and the length, of an edge request the edge and the written edge, of the floor the floor; of a position the
 // number of its set, counted from 0, of a set how many units it has and the units, a byte each, lowest first. 0 elsewhere.
 pub struct Told {
     pub answer: u64,
@@ -38,7 +40,7 @@ pub struct Row {
 
 impl Row {
     // Rows of the table, and the numbers that each has there.
-    pub const COUNT: usize = 82;
+    pub const COUNT: usize = 84;
 
     pub const NUMBERS: usize = 9;
 }

@@ -39,6 +39,7 @@ fn ask_of(asked: u64, e: u64, p: u64, kind: u64, size: u64) -> Ask
         7 => Ask::Fill(p),
         9 => Ask::Place(position),
         10 => Ask::Drop(byte(e), byte(p), size as usize),
+        11 => Ask::Measure,
         _ => Ask::Floor,
     }
 }

@@ -72,6 +72,7 @@ fn say_asked(asked: Ask) {
             text(b"seal e");
             number(n.0 as u64);
         }
+        Ask::Measure => text(b"ask for the edges"),
         Ask::Fill(n) => {
             text(b"write e1 data 0 bytes at each position below ");
             number(n);
@@ -99,7 +100,7 @@ fn say_told(asked: Ask, told: Told) {
     }
     match asked {
         Ask::Read(_, _) => say_page(told.first, told.second),
-        Ask::Seal(_) => {
+        Ask::Measure => {
             text(b" edge ");
             number(told.first);
             text(b" written edge ");

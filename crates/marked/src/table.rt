@@ -5,7 +5,7 @@ ghost use Rattle.marked.specs.InsideNumbers.{numbersOf};
 use crate::ask::Row;
 use num::Position;
 
-// Example; what is asked (1 fresh, 2 write, 3 read, 4 trim, 5 prune, 6 seal, 7 fill, 8 floor, 9 place, 10 drop), epoch, position, kind, bytes; answer, two numbers more.
+// Example; what is asked (1 fresh, 2 write, 3 read, 4 trim, 5 prune, 6 seal, 7 fill, 8 floor, 9 place, 10 drop, 11 edges), epoch, position, kind, bytes; answer, two numbers more.
 // A fresh unit's number and how many positions a fill writes stand where others have the position, and the fresh unit's shape where others have the kind.
 // The units that are dropped stand where others have epoch and position, and the set that is shown where others have the bytes.
 const TABLE: [[u64; Row::NUMBERS]; Row::COUNT] = [
@@ -27,14 +27,15 @@ const TABLE: [[u64; Row::NUMBERS]; Row::COUNT] = [
     [5, 2, 1, 0, 1, 33, 3, 0, 0],
     [6, 1, 0, 1, 0, 0, 0, 0, 0],
     [6, 6, 1, 0, 0, 0, 0, 0, 0],
+    [6, 11, 0, 0, 0, 0, 0, 0, 0],
     [6, 2, 1, 0, 1, 0, 4, 0, 0],
     [6, 2, 2, 0, 1, 0, 0, 0, 0],
-    [6, 6, 1, 0, 0, 0, 0, 1, 1],
+    [6, 6, 1, 0, 0, 0, 0, 0, 0],
     [6, 6, 0, 0, 0, 0, 4, 0, 0],
     [7, 1, 0, 1, 0, 0, 0, 0, 0],
     [7, 4, 1, 5, 0, 0, 0, 0, 0],
     [7, 2, 1, 5, 1, 0, 5, 0, 0],
-    [7, 6, 0, 0, 0, 0, 0, 6, 0],
+    [7, 11, 0, 0, 0, 0, 0, 6, 0],
     [8, 1, 0, 1, 0, 0, 0, 0, 0],
     [8, 7, 1, 128, 0, 0, 0, 0, 0],
     [8, 2, 1, 128, 1, 0, 8, 0, 0],
@@ -46,7 +47,7 @@ const TABLE: [[u64; Row::NUMBERS]; Row::COUNT] = [
     [9, 5, 1, 3, 0, 0, 0, 0, 0],
     [9, 5, 1, 2, 0, 0, 0, 0, 0],
     [9, 8, 0, 0, 0, 0, 0, 3, 0],
-    [9, 6, 0, 0, 0, 0, 0, 3, 3],
+    [9, 11, 0, 0, 0, 0, 0, 3, 3],
     // The large shape.
     [1, 1, 0, 1, 1, 0, 0, 0, 0],
     [1, 3, 1, 0, 0, 0, 7, 0, 0],
@@ -65,14 +66,15 @@ const TABLE: [[u64; Row::NUMBERS]; Row::COUNT] = [
     [5, 2, 1, 0, 1, 81, 3, 0, 0],
     [6, 1, 0, 1, 1, 0, 0, 0, 0],
     [6, 6, 1, 0, 0, 0, 0, 0, 0],
+    [6, 11, 0, 0, 0, 0, 0, 0, 0],
     [6, 2, 1, 0, 1, 0, 4, 0, 0],
     [6, 2, 2, 0, 1, 0, 0, 0, 0],
-    [6, 6, 1, 0, 0, 0, 0, 1, 1],
+    [6, 6, 1, 0, 0, 0, 0, 0, 0],
     [6, 6, 0, 0, 0, 0, 4, 0, 0],
     [7, 1, 0, 1, 1, 0, 0, 0, 0],
     [7, 4, 1, 5, 0, 0, 0, 0, 0],
     [7, 2, 1, 5, 1, 0, 5, 0, 0],
-    [7, 6, 0, 0, 0, 0, 0, 6, 0],
+    [7, 11, 0, 0, 0, 0, 0, 6, 0],
     [8, 1, 0, 1, 1, 0, 0, 0, 0],
     [8, 7, 1, 64, 0, 0, 0, 0, 0],
     [8, 2, 1, 64, 1, 0, 8, 0, 0],
@@ -84,7 +86,7 @@ const TABLE: [[u64; Row::NUMBERS]; Row::COUNT] = [
     [9, 5, 1, 3, 0, 0, 0, 0, 0],
     [9, 5, 1, 2, 0, 0, 0, 0, 0],
     [9, 8, 0, 0, 0, 0, 0, 3, 0],
-    [9, 6, 0, 0, 0, 0, 0, 3, 3],
+    [9, 11, 0, 0, 0, 0, 0, 3, 3],
     // Layouts.
     [10, 9, 0, 0, 0, 0, 0, 0, 0],
     [10, 9, 0, 9, 0, 0, 0, 1, 0],

@@ -13,6 +13,7 @@ use num::Position;
 use num::answer::pick;
 use num::bytes::number_at;
 use num::bytes::wide;
+use unit::edges::measure;
 use unit::memory::Unit;
 use unit::prune::prune;
 use unit::read::read;
@@ -60,10 +61,17 @@ fn tell_seal(mem: &mut [u8], n: Epoch) -> Told
     ensures { λ r. ⌜ IsTold (now (mem .entry)) (Ask.Seal n) r (now (mem .exit)) ⌝ }
 {
     let sealed = seal(mem, n);
+    plain(sealed.answer)
+}
+
+fn tell_edges(mem: &[u8]) -> Told
+    ensures { λ r. ⌜ IsTold (now (mem .entry)) Ask.Measure r (now (mem .entry)) ⌝ }
+{
+    let measured = measure(mem);
     Told {
-        answer: wide(sealed.answer),
-        first: sealed.edges.edge.0,
-        second: sealed.edges.written.0,
+        answer: wide(measured.answer),
+        first: measured.edges.edge.0,
+        second: measured.edges.written.0,
     }
 }
 
@@ -102,6 +110,7 @@ pub(crate) fn tell(mem: &mut [u8], asked: Ask) -> Told
         Ask::Trim(e, p) => plain(trim(mem, e, p)),
         Ask::Prune(e, p) => plain(prune(mem, e, p)),
         Ask::Seal(n) => tell_seal(mem, n),
+        Ask::Measure => tell_edges(mem),
         Ask::Fill(n) => plain(fill(mem, n)),
         Ask::Floor => tell_floor(mem),
         Ask::Place(p) => tell_place(p),

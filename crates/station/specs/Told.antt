@@ -7,7 +7,7 @@ use Rattle.num.specs.declared.Epoch.{Epoch}
 use Rattle.num.specs.declared.Position.{Position}
 use Rattle.num.specs.Told.{told}
 use Rattle.unit.specs.Shape.{shapeOf}
-use Rattle.unit.specs.Unit.Request.{read, seal}
+use Rattle.unit.specs.Unit.Request.{read, seal, measure}
 use Rattle.unit.specs.Rules.{answer, reported, start}
 use Rattle.unit.specs.Promises.{IsAnswered}
 
@@ -30,3 +30,9 @@ pub record IsSealTold (m : List ℕ) (e : Epoch) (edge written n edge′ written
   pub answered : IsAnswered m (seal e) n after
   pub edge-is : edge′ ≡ told (answer (shapeOf m) m (seal e)) (reported (shapeOf m) m (seal e) .edges .edge .0) edge
   pub written-is : written′ ≡ told (answer (shapeOf m) m (seal e)) (reported (shapeOf m) m (seal e) .edges .written .0) written
+
+-- an edge request, and the lent edges before and after it
+pub record IsMeasureTold (m : List ℕ) (edge written n edge′ written′ : ℕ) : Type 0 where
+  pub answered : IsAnswered m measure n m
+  pub edge-is : edge′ ≡ told (answer (shapeOf m) m measure) (reported (shapeOf m) m measure .edges .edge .0) edge
+  pub written-is : written′ ≡ told (answer (shapeOf m) m measure) (reported (shapeOf m) m measure .edges .written .0) written

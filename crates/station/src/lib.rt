@@ -2,9 +2,10 @@
 ghost use Rattle.unit.specs.State.{content};
 ghost use Rattle.unit.specs.Unit.{Request};
 ghost use Rattle.unit.specs.Promises.{IsFresh, IsAnswered};
-ghost use Rattle.station.specs.Told.{epochOf, positionOf, IsTold, IsSealTold};
+ghost use Rattle.station.specs.Told.{epochOf, positionOf, IsTold, IsSealTold, IsMeasureTold};
 use num::Epoch;
 use num::Position;
+use unit::edges::measure;
 use unit::memory::Unit;
 use unit::prune::prune;
 use unit::read::read;
@@ -78,6 +79,20 @@ pub extern "C" fn unit_seal(mem: &mut [u8], epoch: u32, edge: &mut u64, written:
     if answer == 0 {
         *edge = done.edges.edge.0;
         *written = done.edges.written.0;
+    }
+    answer
+}
+
+// The edges without a seal. On a refusal `edge` and `written` keep what they held.
+#[no_mangle]
+pub extern "C" fn unit_edges(mem: &[u8], edge: &mut u64, written: &mut u64) -> u8
+    ensures { λ r. ⌜ IsMeasureTold (now (mem .entry)) (now (edge .entry)) (now (written .entry)) r (now (edge .exit)) (now (written .exit)) ⌝ }
+{
+    let measured = measure(mem);
+    let answer = measured.answer;
+    if answer == 0 {
+        *edge = measured.edges.edge.0;
+        *written = measured.edges.written.0;
     }
     answer
 }

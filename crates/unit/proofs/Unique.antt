@@ -10,7 +10,7 @@ use Rattle.unit.specs.Shape.{shapeOf}
 use Rattle.unit.specs.Memory.{good}
 use Rattle.unit.specs.Unit.{Request}
 use Rattle.num.proofs.Unique.{once}
-use Rattle.unit.specs.Promises.{IsFresh, IsAnswered, IsRead, IsSealed, IsPart}
+use Rattle.unit.specs.Promises.{IsFresh, IsAnswered, IsRead, IsSealed, IsMeasured, IsPart}
 
 module _ {m : List ℕ} {a b : ℕ} {m₁ m₂ : List ℕ} where
   pub fresh-once : {n s : ℕ} → IsFresh m n s a m₁ → IsFresh m n s b m₂ → (a ≡ b) × (m₁ ≡ m₂)
@@ -24,6 +24,9 @@ module _ {m : List ℕ} {a b : ℕ} {m₁ m₂ : List ℕ} where
   seal-once x y =
       let (n, left) = answer-once (x .answered) (y .answered) in
       (n, (once (x .edges-is) (y .edges-is), left))
+
+pub measure-once : {m : List ℕ} {a b : ℕ} {c d : Edges} → IsMeasured m a c → IsMeasured m b d → (a ≡ b) × (c ≡ d)
+measure-once x y = (once (x .answered .answer-is) (y .answered .answer-is), once (x .edges-is) (y .edges-is))
 
 pub read-once : {m : List ℕ} {e : Epoch} {p : Position} {a k s n b l t o : ℕ} → IsRead m e p a k s n → IsRead m e p b l t o → (a ≡ b) × ((k ≡ l) × ((s ≡ t) × (n ≡ o)))
 read-once x y = (once (x .answered .answer-is) (y .answered .answer-is), (once (x .kind-is) (y .kind-is), (once (x .start-is) (y .start-is), once (x .length-is) (y .length-is))))

@@ -14,7 +14,7 @@ use Rattle.unit.specs.Kinds.{noKind, strayKind, isGone, wasWritten}
 use Rattle.unit.specs.Shape.{Shape}
 use Rattle.unit.specs.State.{Content, Slot, State, content, page, retiredPage, lookup, insert, keepFrom, retire, lastEnd, edge, writtenEnd, writtenEdge}
 use Rattle.unit.specs.Unit.{Request, kindAt, free, trimmed, written, retired, trimmedAt, pruned, prunedTo, sealedAt, becomes, says, after, movesTo, writtenAfter}
-use Rattle.unit.specs.Unit.Request.{write, read, trim, prune, seal}
+use Rattle.unit.specs.Unit.Request.{write, read, trim, prune, seal, measure}
 use Rattle.unit.specs.Memory.{validSlots, valid}
 use Rattle.unit.proofs.Questions.{stays-page, page-written, retired-written, stray-unwritten}
 use Rattle.unit.proofs.Answers.{writable, by-test, by-answer}
@@ -120,6 +120,7 @@ module _ (sh : Shape) (u : State) (v : valid sh u ≡ true) where
   becomes-moves (trim e p) z = trimmed-moves (p .0)
   becomes-moves (prune e p) z = pruned-moves u (p .0)
   becomes-moves (seal e) z = sealed-moves u (e .0)
+  becomes-moves measure z = refl
 
   -- THE TABLE OF WHAT MOVES THE WRITTEN EDGE
   pub written-edge-moves : (r : Request) → writtenEdge (after sh u r) ≡ writtenAfter sh u r

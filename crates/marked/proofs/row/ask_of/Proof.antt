@@ -61,19 +61,24 @@ returns-9 c = rw (c .before .before .match .keys9, c .before .byte3 .ensures, c 
 
 returns-10 : tie.Need-returns-10
 unfolding askOf
-returns-10 c =
+returns-10 c = rw (c .match .keys10)
+
+returns-11 : tie.Need-returns-11
+unfolding askOf
+returns-11 c =
     let n : ℕ = c .before .before .args .asked in
     let r = c .match .rest in
     rw (
-      ne-eqb n 1 (r .0 .0 .0 .0 .0 .0 .0 .0 .1),
-      ne-eqb n 2 (r .0 .0 .0 .0 .0 .0 .0 .1),
-      ne-eqb n 3 (r .0 .0 .0 .0 .0 .0 .1),
-      ne-eqb n 4 (r .0 .0 .0 .0 .0 .1),
-      ne-eqb n 5 (r .0 .0 .0 .0 .1),
-      ne-eqb n 6 (r .0 .0 .0 .1),
-      ne-eqb n 7 (r .0 .0 .1),
-      ne-eqb n 9 (r .0 .1),
-      ne-eqb n 10 (r .1),
+      ne-eqb n 1 (r .0 .0 .0 .0 .0 .0 .0 .0 .0 .1),
+      ne-eqb n 2 (r .0 .0 .0 .0 .0 .0 .0 .0 .1),
+      ne-eqb n 3 (r .0 .0 .0 .0 .0 .0 .0 .1),
+      ne-eqb n 4 (r .0 .0 .0 .0 .0 .0 .1),
+      ne-eqb n 5 (r .0 .0 .0 .0 .0 .1),
+      ne-eqb n 6 (r .0 .0 .0 .0 .1),
+      ne-eqb n 7 (r .0 .0 .0 .1),
+      ne-eqb n 9 (r .0 .0 .1),
+      ne-eqb n 10 (r .0 .1),
+      ne-eqb n 11 (r .1),
     )
 
 pub ask-of-spec : {M : Type 1} → statement M
@@ -95,4 +100,5 @@ ask-of-spec =
     returns-7
     returns-8
     returns-9
-    returns-10)
+    returns-10
+    returns-11)

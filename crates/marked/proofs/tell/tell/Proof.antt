@@ -48,6 +48,12 @@ enum-known-asked-6 c = search needs
 tell-seal-requires : tie.Need-tell-seal-requires
 tell-seal-requires c κs = search needs
 
+enum-told : tie.Need-enum-told
+enum-told c = search needs
+
+tell-edges-requires : tie.Need-tell-edges-requires
+tell-edges-requires c κs = search needs
+
 enum-known-asked-7 : tie.Need-enum-known-asked-7
 enum-known-asked-7 c = search needs
 
@@ -57,8 +63,8 @@ fill-requires c κs = search needs
 plain-requires-4 : tie.Need-plain-requires-4
 plain-requires-4 c κs = search needs
 
-enum-told : tie.Need-enum-told
-enum-told c = search needs
+enum-told-2 : tie.Need-enum-told-2
+enum-told-2 c = search needs
 
 tell-floor-requires : tie.Need-tell-floor-requires
 tell-floor-requires c κs = search needs
@@ -115,19 +121,25 @@ same-length-7 : tie.Need-same-length-7
 same-length-7 c = search needs
 
 returns-7 : tie.Need-returns-7
-returns-7 c = rw (c .before .before .before .before .before .before .asked7 .given .1) (fill-told (c .before .before .before .fill .ensures) (c .plain4 .ensures))
+returns-7 c = rw (c .before .before .enum-told .given .1) (c .tell-edges .ensures)
 
 same-length-8 : tie.Need-same-length-8
 same-length-8 c = search needs
 
 returns-8 : tie.Need-returns-8
-returns-8 c = rw (c .before .before .enum-told .given .1) (floor-told (c .tell-floor .ensures))
+returns-8 c = rw (c .before .before .before .before .before .before .asked7 .given .1) (fill-told (c .before .before .before .fill .ensures) (c .plain4 .ensures))
+
+same-length-9 : tie.Need-same-length-9
+same-length-9 c = search needs
 
 returns-9 : tie.Need-returns-9
-returns-9 c = rw (c .before .before .asked8 .given .1) (place-told (c .tell-place .ensures))
+returns-9 c = rw (c .before .before .enum-told2 .given .1) (floor-told (c .tell-floor .ensures))
 
 returns-10 : tie.Need-returns-10
-returns-10 c = rw (c .before .before .asked9 .given .1) (drop-told (c .tell-drop .ensures))
+returns-10 c = rw (c .before .before .asked8 .given .1) (place-told (c .tell-place .ensures))
+
+returns-11 : tie.Need-returns-11
+returns-11 c = rw (c .before .before .asked9 .given .1) (drop-told (c .tell-drop .ensures))
 
 pub tell-spec : {M : Type 1} → statement M
 tell-spec =
@@ -148,10 +160,12 @@ tell-spec =
     plain-requires-3
     enum-known-asked-6
     tell-seal-requires
+    enum-told
+    tell-edges-requires
     enum-known-asked-7
     fill-requires
     plain-requires-4
-    enum-told
+    enum-told-2
     tell-floor-requires
     enum-known-asked-8
     tell-place-requires
@@ -173,5 +187,7 @@ tell-spec =
     returns-7
     same-length-8
     returns-8
+    same-length-9
     returns-9
-    returns-10)
+    returns-10
+    returns-11)

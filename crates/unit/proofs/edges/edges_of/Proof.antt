@@ -1,5 +1,5 @@
-use Rattle.unit.proofs.seal.edges_of.Statement.{statement}
-use Rattle.unit.proofs.seal.edges_of.Tie as tie
+use Rattle.unit.proofs.edges.edges_of.Statement.{statement}
+use Rattle.unit.proofs.edges.edges_of.Tie as tie
 
 edge-of-requires : tie.Need-edge-of-requires
 edge-of-requires c κs = c .before .pre

@@ -1,4 +1,4 @@
--- `seal::written_count` meets its contract. The invariant and its steps are `Sealing`'s `Passed`.
+-- `edges::written_count` meets its contract. The invariant and its steps are `Sealing`'s `Passed`.
 use Prim.Native.Nat.{_+_, _*_, _-_, _≤_}
 use mathlib.Core.Path.{refl, sym, _∙_}
 use native.Mathlib.Omega.{arith}
@@ -7,10 +7,10 @@ use lib.ListN.{length}
 use Rattle.unit.specs.Shape.{slotSize}
 use Rattle.unit.proofs.Goodness.{is-good, slot-within}
 use Rattle.unit.proofs.Sealing.{Passed, passed-none, passed-more, passed-last, passed-all}
-use Rattle.unit.proofs.seal.written_count.Statement.{statement}
-use Rattle.unit.proofs.seal.written_count.Tie as tie
-use Rattle.unit.proofs.seal.written_count.Reads as reads
-use Rattle.unit.proofs.seal.written_count.Lts as lts
+use Rattle.unit.proofs.edges.written_count.Statement.{statement}
+use Rattle.unit.proofs.edges.written_count.Tie as tie
+use Rattle.unit.proofs.edges.written_count.Reads as reads
+use Rattle.unit.proofs.edges.written_count.Lts as lts
 use Rattle.unit.proofs.field.number_at.Reads as number-at-reads
 use Rattle.unit.proofs.kind.was_written.Reads as was-written-reads
 

@@ -1,12 +1,12 @@
 use mathlib.Core.Path.{_∙_}
 use Rattle.unit.proofs.Sealing.{written-behind}
 use borrow.Author.Needs.{needs}
-use Rattle.unit.proofs.seal.written_edge_of.Statement.{statement}
-use Rattle.unit.proofs.seal.written_edge_of.Tie as tie
-use Rattle.unit.proofs.seal.written_edge_of.Reads as reads
-use Rattle.unit.proofs.seal.written_edge_of.Lts as lts
-use Rattle.unit.proofs.seal.written_count.Reads as written-count-reads
-use Rattle.unit.proofs.seal.edge_behind.Reads as edge-behind-reads
+use Rattle.unit.proofs.edges.written_edge_of.Statement.{statement}
+use Rattle.unit.proofs.edges.written_edge_of.Tie as tie
+use Rattle.unit.proofs.edges.written_edge_of.Reads as reads
+use Rattle.unit.proofs.edges.written_edge_of.Lts as lts
+use Rattle.unit.proofs.edges.written_count.Reads as written-count-reads
+use Rattle.unit.proofs.edges.edge_behind.Reads as edge-behind-reads
 
 written-count-requires : tie.Need-written-count-requires
 written-count-requires c κs = search needs
