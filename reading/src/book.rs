@@ -1,6 +1,6 @@
 //! What the play book shows: a line for each step of a play, run from its fresh yard.
 
-use crate::client::Outcome;
+use crate::client::{Job, Outcome};
 use crate::no;
 use crate::play::Play;
 use crate::yard::{Ended, Step, Yard};
@@ -13,14 +13,19 @@ pub fn hex(bytes: &[u8]) -> String {
     bytes.iter().map(|byte| format!("{byte:02x}")).collect()
 }
 
-fn outcome(client: u8, outcome: &Outcome) -> String {
-    let (kind, bytes) = outcome.page.as_ref().map_or((0, &[][..]), |page| (page.kind(), page.bytes()));
-    format!(" : {client} {} {} {} {kind} {}", outcome.number, outcome.position, outcome.epoch, hex(bytes))
+fn outcome(ended: &Ended) -> String {
+    let Outcome { number, position, epoch, page, sent } = &ended.outcome;
+    let (kind, bytes) = page.as_ref().map_or((0, &[][..]), |page| (page.kind(), page.bytes()));
+    let sent = match ended.job {
+        Job::Append(_) => format!(" sent {sent}"),
+        _ => String::new(),
+    };
+    format!(" : {} {number} {position} {epoch} {kind} {}{sent}", ended.client, hex(bytes))
 }
 
 /// NUMBER ANSWER, and the outcome where an operation ended.
 fn line(number: usize, answer: no::No, ended: Option<&Ended>) -> String {
-    let end = ended.map_or(String::new(), |ended| outcome(ended.client, &ended.outcome));
+    let end = ended.map_or(String::new(), outcome);
     format!("{number} {answer}{end}\n")
 }
 

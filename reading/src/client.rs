@@ -40,13 +40,14 @@ impl Job {
     }
 }
 
-/// How an operation ended: its number, the position under way, the epoch of the layout it fetched (0 before), a read's page.
+/// How an operation ended: its number, the position under way, the epoch of the layout it fetched (0 before), a read's page, and the requests it sent.
 #[derive(Clone, Debug, PartialEq, Eq)]
 pub struct Outcome {
     pub number: No,
     pub position: u64,
     pub epoch: u32,
     pub page: Option<Page>,
+    pub sent: u32,
 }
 
 #[derive(Clone, Debug, PartialEq, Eq)]
@@ -85,11 +86,12 @@ impl Client {
     }
 
     /// A request goes out under the next number; with none left the operation ends.
-    fn send(&mut self, operation: Operation, ask: Ask) -> Turn {
+    fn send(&mut self, mut operation: Operation, ask: Ask) -> Turn {
         let Some(number) = self.used.checked_add(1) else {
             return self.end(operation, no::NUMBERS_SPENT, None);
         };
         self.used = number;
+        operation.sent += 1;
         self.operation = Some(operation);
         let stamp = Stamp { client: self.me, life: self.life, number };
         Turn::Sends(Letter { stamp, body: Body::Asks(ask) })
@@ -97,7 +99,7 @@ impl Client {
 
     fn end(&mut self, operation: Operation, number: No, page: Option<Page>) -> Turn {
         self.operation = None;
-        let outcome = Outcome { number, position: operation.position, epoch: operation.epoch(), page };
+        let outcome = Outcome { number, position: operation.position, epoch: operation.epoch(), page, sent: operation.sent };
         Turn::Ends(operation.job, outcome)
     }
 

@@ -29,6 +29,7 @@ pub mod audit;
 pub mod demand;
 pub mod invariant;
 pub mod last_sentence;
+pub mod postage;
 
 pub mod book;
 pub mod picture;

@@ -75,6 +75,8 @@ pub struct Operation {
     pub layout: Option<Layout>,
     /// The position under way: an append's last token, 0 before the first.
     pub position: u64,
+    /// Requests sent so far.
+    pub sent: u32,
     pub wait: Wait,
 }
 
@@ -108,7 +110,7 @@ fn pop(mut route: Route) -> Option<(u8, Route)> {
 impl Operation {
     pub fn new(job: Job) -> Operation {
         let position = job.position();
-        Operation { job, layout: None, position, wait: Wait::Layout }
+        Operation { job, layout: None, position, sent: 0, wait: Wait::Layout }
     }
 
     /// The epoch of the layout fetched, 0 before.

@@ -1,13 +1,17 @@
 //! Random runs, watched: the laws hold after every step, and a reader is never misled.
 
 use reading::audit::Audit;
+use reading::client::Job;
 use reading::demand::History;
 use reading::invariant::{good_memories, Watch};
 use reading::last_sentence;
 use reading::lehmer::Lehmer;
+use reading::no;
 use reading::plan::Change;
+use reading::postage::Postage;
 use reading::run::Run;
 use reading::shortcut::Shortcut;
+use reading::yard::Ended;
 
 /// The runs that this seed's generator can make a yard for.
 fn run(seed: u32, shortcut: Option<Shortcut>) -> Option<Run> {
@@ -44,6 +48,27 @@ fn no_reader_is_misled_in_300_000_steps() {
             noted.unwrap_or_else(|what| panic!("seed {seed}, step {number}: {what}"));
         }
     }
+}
+
+#[test]
+fn each_outcome_says_how_many_requests_went_into_the_bag() {
+    let (mut appends, mut most, mut eight_heads) = (0, 0, 0);
+    for seed in 1..=300 {
+        let Some(mut run) = run(seed, None) else { continue };
+        let mut postage = Postage::default();
+        for number in 1..=1_000 {
+            let taken = run.step();
+            let noted = postage.note(&run.yard, &taken.step, taken.answer, taken.ended.as_ref());
+            noted.unwrap_or_else(|what| panic!("seed {seed}, step {number}: {what}"));
+            if let Some(Ended { job: Job::Append(_), outcome, .. }) = taken.ended {
+                appends += 1;
+                most = most.max(outcome.sent);
+                eight_heads += usize::from(outcome.number == no::WRITTEN);
+            }
+        }
+    }
+    println!("{appends} appends ended, {eight_heads} of them with 6; one sent {most} requests");
+    assert!(appends > 1_000 && eight_heads > 0, "too few: {appends} appends, {eight_heads} of them with 6");
 }
 
 #[test]

@@ -65,12 +65,12 @@ module _ (P : Turn → Type 0) (c : Client) where
   unfolding writesOn
   written-cases u n done on = if-equal P (afterFor c u) 0 done on
 
-  pub unwritten-cases : (u n k : ℕ) → (u ≡ headFor c → n < tokenLimit → P (draws c (n + 1))) → (¬ (u ≡ headFor c) → k ≡ 6 → P (writesOn c u n)) →
+  pub unwritten-cases : (u n k : ℕ) → (u ≡ headFor c → (eqb k 5 || eqb k 6) ≡ true → n < tokenLimit → P (draws c (n + 1))) → (¬ (u ≡ headFor c) → k ≡ 6 → P (writesOn c u n)) →
       (noRefusal k ≡ true → P (rests c)) → (¬ (k ≡ 0) → P (ends c k)) → P (notWritten c u n k)
   unfolding notWritten notAtHead notLater
   unwritten-cases u n k again on quiet over =
       if-equal P u (headFor c)
-      (λ head. either P (eqb k 5 || eqb k 6) (λ e. if-below P n tokenLimit (again head) (λ z. over (five-or-six k e))) (λ e. otherwise-cases k quiet over))
+      (λ head. either P (eqb k 5 || eqb k 6) (λ e. if-below P n tokenLimit (again head e) (λ z. over (five-or-six k e))) (λ e. otherwise-cases k quiet over))
       (λ later. if-equal P k 6 (on later) (λ e. otherwise-cases k quiet over))
 
   -- ---- read

@@ -1,10 +1,11 @@
 -- What comes of a step at a client: it rests, a request is sent, or its operation ends (docs/RULES.md, 8.2).
-use Prim.Native.Nat.{ℕ, _+_}
+use Prim.Native.Nat.{ℕ, _+_, _-_}
 use mathlib.Core.Bool.{cond}
 use lib.Dec.{leb}
 use Rattle.num.specs.declared.Request.{Request}
 use Rattle.client.specs.declared.Page.{Page}
 use Rattle.client.specs.declared.Query.{Query}
+use Rattle.client.specs.declared.Work.the-variants.{Append}
 use Rattle.client.specs.declared.Client.{Client}
 use Rattle.client.specs.declared.Act.the-variants.{Rests, Sends, Ends}
 use Rattle.client.specs.declared.Outcome.{Outcome}
@@ -13,11 +14,15 @@ use Rattle.client.specs.Message.{noPage, noQuery, noRefusal}
 use Rattle.client.specs.Client.{lastNumber, idle}
 
 abbrev pub noOutcome : Outcome
-noOutcome = record { number = 0; position = record { 0 = 0 }; epoch = record { 0 = 0 }; page = noPage }
+noOutcome = record { number = 0; position = record { 0 = 0 }; epoch = record { 0 = 0 }; page = noPage; work = Append; sent = 0 }
 
--- the position under way, the epoch of the layout fetched (0 before), and a page
+-- the requests that the operation sent: each has used one number, and one that is not sent for want of a number uses none
+abbrev pub sentSoFar : Client → ℕ
+sentSoFar c = c .used .0 - c .begun .0
+
+-- the position under way, the epoch of the layout fetched (0 before), a page, the operation, and the requests that it sent
 abbrev pub outcomeOf : Client → ℕ → Page → Outcome
-outcomeOf c n g = record { number = n; position = c .position; epoch = c .layout .epoch; page = g }
+outcomeOf c n g = record { number = n; position = c .position; epoch = c .layout .epoch; page = g; work = c .work; sent = sentSoFar c }
 
 -- nothing happens
 abbrev pub rests : Client → Turn

@@ -136,10 +136,13 @@ pub enum Act {
     Ends,
 }
 
-// How an operation ended: its number, the position under way, the epoch of the layout it fetched, and the page that a read was shown.
+// How an operation ended: its number, the position under way, the epoch of the layout it fetched, the page that a read was shown,
+// what the operation was, and how many requests it sent.
 pub struct Outcome {
     pub number: u8,
     pub position: Position,
     pub epoch: Epoch,
     pub page: Page,
+    pub work: Work,
+    pub sent: u32,
 }

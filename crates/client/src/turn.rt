@@ -1,11 +1,12 @@
 // What comes of a step at a client: it rests, a request is sent, or its operation ends.
 ghost use mathlib.Core.Path.{_≡_};
-ghost use Rattle.client.specs.Turn.{noOutcome, outcomeOf, rests, over, ends, numbered, sends, otherwise};
+ghost use Rattle.client.specs.Turn.{noOutcome, sentSoFar, outcomeOf, rests, over, ends, numbered, sends, otherwise};
 use crate::Act;
 use crate::Client;
 use crate::Outcome;
 use crate::Page;
 use crate::Query;
+use crate::Work;
 use crate::message::is_no_refusal;
 use num::Epoch;
 use num::Position;
@@ -30,6 +31,8 @@ impl Outcome {
             position: Position(0),
             epoch: Epoch(0),
             page,
+            work: Work::Append,
+            sent: 0,
         }
     }
 
@@ -39,13 +42,29 @@ impl Outcome {
         let position = client.position;
         let layout = client.layout;
         let epoch = layout.epoch;
+        let work = client.work;
+        let sent = sent_so_far(client);
         Outcome {
             number,
             position,
             epoch,
             page,
+            work,
+            sent,
         }
     }
+}
+
+// The requests sent since the operation began: each has used one number, and one that had none left has used none.
+pub(crate) fn sent_so_far(client: Client) -> u32
+    ensures { λ r. ⌜ r ≡ sentSoFar client ⌝ }
+{
+    let used = client.used;
+    let begun = client.begun;
+    if used.0 < begun.0 {
+        return 0;
+    }
+    used.0 - begun.0
 }
 
 // Nothing happens: the answer was to something else, or to nothing.

@@ -8,8 +8,9 @@ use lib.Dec.{eqb}
 use lib.ListN.{length, length-append, length-take}
 use Rattle.client.specs.declared.Outcome.{Outcome}
 use Rattle.client.specs.declared.Page.{Page}
-use Rattle.line.specs.Text.{lineEnd, space, colon, decimal, word, hexText}
-use Rattle.line.specs.Line.{payloadOf, whoText, pageText, endText, lineOf}
+use Rattle.client.specs.declared.Work.{Work}
+use Rattle.line.specs.Text.{lineEnd, space, colon, sentWord, decimal, word, hexText}
+use Rattle.line.specs.Line.{payloadOf, whoText, pageText, isAppend, sentText, endText, lineOf}
 use Rattle.line.proofs.Digits.{decimal-some, decimal-few}
 use Rattle.line.proofs.Hex.{text-length}
 
@@ -25,13 +26,24 @@ pub page-size : (p : Page) → length (pageText p) ≡ length (word (p .kind)) +
 unfolding pageText
 page-size p = omega (arith, length-append (word (p .kind)) (space ∷ hexText (payloadOf p)))
 
-pub end-size : (who : ℕ) (o : Outcome) → length (endText who o) ≡ length (whoText who (o .number)) + (length (word (o .position .0)) + (length (word (o .epoch .0)) + length (pageText (o .page))))
+pub count-size : (n : ℕ) → length (sentWord ++ word n) ≡ 5 + length (word n)
+count-size n = omega (arith, length-append sentWord (word n))
+
+pub end-size : (who : ℕ) (o : Outcome) →
+    length (endText who o) ≡ length (whoText who (o .number)) + (length (word (o .position .0)) + (length (word (o .epoch .0)) + (length (pageText (o .page)) + length (sentText (o .work) (o .sent)))))
 unfolding endText
 end-size who o =
     let w = whoText who (o .number) in
     let p = word (o .position .0) in
     let e = word (o .epoch .0) in
-    omega (arith, length-append ((w ++ p) ++ e) (pageText (o .page)), length-append (w ++ p) e, length-append w p)
+    let g = pageText (o .page) in
+    omega (
+      arith,
+      length-append (((w ++ p) ++ e) ++ g) (sentText (o .work) (o .sent)),
+      length-append ((w ++ p) ++ e) g,
+      length-append (w ++ p) e,
+      length-append w p,
+    )
 
 -- what stands of an end in a line
 abbrev pub ended : ℕ → Outcome → List ℕ
@@ -55,10 +67,19 @@ pub record Bounded (o : Outcome) : Type 0 where
   pub position : o .position .0 < 10 ^ 20
   pub epoch : o .epoch .0 < 10 ^ 10
   pub kind : o .page .kind < 10 ^ 3
+  pub sent : o .sent < 10 ^ 10
   pub bytes : length (o .page .bytes) ≤ 80
 
+sent-few : (w : Work) (n : ℕ) → n < 10 ^ 10 → length (sentText w n) ≤ 16
+unfolding sentText
+sent-few w n h = go (isAppend w)
+  where
+    go : (t : Bool) → length (cond t (sentWord ++ word n) []) ≤ 16
+    go true = omega (arith, count-size n, word-size n, decimal-few 9 n h)
+    go false = omega arith
+
 module _ (who : ℕ) (o : Outcome) (w : who < 10 ^ 3) (b : Bounded o) where
-  end-few : length (endText who o) ≤ 211
+  end-few : length (endText who o) ≤ 227
   end-few =
       let shown : length (payloadOf (o .page)) ≤ 80 = omega (arith, length-take (o .page .len) (o .page .bytes), b .bytes) in
       omega (
@@ -78,12 +99,13 @@ module _ (who : ℕ) (o : Outcome) (w : who < 10 ^ 3) (b : Bounded o) where
         decimal-few 2 (o .page .kind) (b .kind),
         text-length (payloadOf (o .page)),
         shown,
+        sent-few (o .work) (o .sent) (b .sent),
       )
 
-  ended-few : length (ended who o) ≤ 211
+  ended-few : length (ended who o) ≤ 227
   ended-few = go (eqb who 0)
     where
-      go : (t : Bool) → length (cond t [] (endText who o)) ≤ 211
+      go : (t : Bool) → length (cond t [] (endText who o)) ≤ 227
       go true = omega arith
       go false = end-few
 

@@ -16,6 +16,10 @@ dash = 45
 abbrev pub colon : ℕ
 colon = 58
 
+-- " sent"
+abbrev pub sentWord : List ℕ
+sentWord = 32 ∷ 115 ∷ 101 ∷ 110 ∷ 116 ∷ []
+
 -- 0 to 9
 abbrev pub digit : ℕ → ℕ
 digit d = 48 + d

@@ -7,13 +7,15 @@ ghost use Prim.Native.Nat.{_+_, _≤_};
 ghost use lib.ListN.{length, take};
 ghost use lib.Seq.{sets};
 ghost use Rattle.line.specs.Put.{IsPut};
-ghost use Rattle.line.specs.Line.{whoText, pageText, endText, lineOf, IsLinePut};
+ghost use Rattle.line.specs.Line.{whoText, pageText, isAppend, sentText, endText, lineOf, IsLinePut};
 use crate::text::put_byte;
 use crate::text::put_bytes;
+use crate::text::put_count;
 use crate::text::put_decimal;
 use crate::text::put_word;
 use client::Outcome;
 use client::Page;
+use client::Work;
 
 pub mod text;
 
@@ -46,6 +48,31 @@ fn put_page(line: &mut [u8], at: usize, page: Page) -> usize
     put_bytes(line, space, &bytes, page.len)
 }
 
+fn is_append(work: Work) -> bool
+    ensures { λ r. ⌜ r ≡ isAppend work ⌝ }
+{
+    match work {
+        Work::Append => true,
+        Work::Read(_) => false,
+        Work::Fill(_) => false,
+        Work::Trim(_) => false,
+        Work::Prune(_) => false,
+        Work::Reorganise => false,
+    }
+}
+
+// How many requests an append sent; of the others nothing is said.
+fn put_sent(line: &mut [u8], at: usize, work: Work, sent: u32) -> usize
+    requires { ⌜ at + length (sentText work sent) ≤ length (now line) ⌝ }
+    ensures { λ r. ⌜ IsPut (now (line .entry)) at (sentText work sent) r (now (line .exit)) ⌝ }
+{
+    if is_append(work) {
+        put_count(line, at, sent)
+    } else {
+        at
+    }
+}
+
 // Who ended, and how.
 fn put_end(line: &mut [u8], at: usize, who: u8, outcome: Outcome) -> usize
     requires { ⌜ at + length (endText who outcome) ≤ length (now line) ⌝ }
@@ -55,7 +82,9 @@ fn put_end(line: &mut [u8], at: usize, who: u8, outcome: Outcome) -> usize
     let number = put_who(line, at, who, outcome.number);
     let position = put_word(line, number, outcome.position.0);
     let epoch = put_word(line, position, outcome.epoch.0 as u64);
-    put_page(line, epoch, page)
+    let shown = put_page(line, epoch, page);
+    let work = outcome.work;
+    put_sent(line, shown, work, outcome.sent)
 }
 
 // Nothing where nobody ended.

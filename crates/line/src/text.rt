@@ -1,9 +1,9 @@
 // Numbers and bytes as text, one behind the other in a line that has room for them.
 ghost use mathlib.Core.Path.{_≡_};
-ghost use mathlib.Core.List.{[], _∷_};
+ghost use mathlib.Core.List.{[], _∷_, _++_};
 ghost use Prim.Native.Nat.{min, _+_, _*_, _≤_};
 ghost use lib.ListN.{length, take};
-ghost use Rattle.line.specs.Text.{decimal, word, hexDigit, hexBytes, hexText};
+ghost use Rattle.line.specs.Text.{sentWord, decimal, word, hexDigit, hexBytes, hexText};
 ghost use Rattle.line.specs.Put.{IsPut};
 use num::bytes::size;
 
@@ -51,6 +51,19 @@ pub(crate) fn put_word(line: &mut [u8], at: usize, n: u64) -> usize
 {
     let space = put_byte(line, at, b' ');
     put_decimal(line, space, n)
+}
+
+// How many were sent.
+pub(crate) fn put_count(line: &mut [u8], at: usize, n: u32) -> usize
+    requires { ⌜ at + length (sentWord ++ word n) ≤ length (now line) ⌝ }
+    ensures { λ r. ⌜ IsPut (now (line .entry)) at (sentWord ++ word n) r (now (line .exit)) ⌝ }
+{
+    let space = put_byte(line, at, b' ');
+    let s = put_byte(line, space, b's');
+    let e = put_byte(line, s, b'e');
+    let m = put_byte(line, e, b'n');
+    let t = put_byte(line, m, b't');
+    put_word(line, t, n as u64)
 }
 
 fn hex_digit(d: u8) -> u8

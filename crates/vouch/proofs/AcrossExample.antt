@@ -71,7 +71,7 @@ record Ran : Type 0 where
   first-reached : Reaches step l asked-first deliver reading deliver 0 1
   first-in-force : InForce step l asked-first 1
   second-ran : fields.ReadEnds l reading-again deliver 0 2 (shows (bytes (7 ∷ [])))
-  second-returns : result (world l reading-again) deliver .outcome ≡ record { number = 0; position = record { 0 = 0 }; epoch = record { 0 = 2 }; page = page-7 }
+  second-returns : result (world l reading-again) deliver .outcome ≡ record { number = 0; position = record { 0 = 0 }; epoch = record { 0 = 2 }; page = page-7; work = Read (record { 0 = 0 }); sent = 2 }
   second-reached : Reaches step l asked-again deliver reading-again deliver 0 2
   second-in-force : InForce step l asked-again 2
 

@@ -103,7 +103,7 @@ module _ {h : History} (run : Run h) (c : Client) where
     not-written : (k : ℕ) → (k ≡ 6 → WrittenBefore h u (c .layout .epoch .0) (c .position .0) (carried (c .page))) → TurnOk h c (notWritten c u n k)
     not-written k six =
         unwritten-cases (TurnOk h c) c u n k
-        (λ head left. draws-ok run c c refl refl (n + 1) (record { is-append = ok .is-append; fetched = ok .walk .fetched; asked = ok .asked }))
+        (λ head taken left. draws-ok run c c refl refl (n + 1) (record { is-append = ok .is-append; fetched = ok .walk .fetched; asked = ok .asked }))
         (λ later is-six. wrote (written-there run (ok .walk) (six is-six) (λ z. later (z ∙ sym (head-is c (ok .walk .fetched .is-good) (ok .walk .low))))))
         (λ none. rests-ok)
         (λ not-fine. ends-ok c k refl refl (append-quiet c k (ok .is-append) not-fine))

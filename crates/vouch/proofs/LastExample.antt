@@ -91,7 +91,7 @@ record Left : Type 0 where
 record Ran : Type 0 where
   yard-left : Left
   answered : fields.ReadEnds l reading-again deliver 0 2 (shows (bytes (7 ∷ [])))
-  returns : result (world l reading-again) deliver .outcome ≡ record { number = 0; position = record { 0 = 0 }; epoch = record { 0 = 2 }; page = page-7 }
+  returns : result (world l reading-again) deliver .outcome ≡ record { number = 0; position = record { 0 = 0 }; epoch = record { 0 = 2 }; page = page-7; work = Read (record { 0 = 0 }); sent = 2 }
 
 -- by the rules, computed
 computed : Ran
@@ -122,7 +122,7 @@ pub answered-again : ReadEnds step l reading-again deliver 0
 unfolding valueOf
 answered-again = read-stated l l-good refl (computed .answered)
 
-pub returned-again : result (world l reading-again) deliver .outcome ≡ record { number = 0; position = record { 0 = 0 }; epoch = record { 0 = 2 }; page = page-7 }
+pub returned-again : result (world l reading-again) deliver .outcome ≡ record { number = 0; position = record { 0 = 0 }; epoch = record { 0 = 2 }; page = page-7; work = Read (record { 0 = 0 }); sent = 2 }
 returned-again = computed .returns
 
 works : (k : ℕ) → k < 1 → WorkingUnit (false ∷ true ∷ replicate 6 false) (getD ((1 ∷ 2 ∷ []) ∷ []) k [])

@@ -39,7 +39,7 @@ use Rattle.num.specs.declared.Request.{Request}
 use Rattle.client.specs.declared.Client.{Client}
 use Rattle.client.specs.declared.turn.Turn.{Turn}
 use Rattle.client.specs.declared.state.Job.{Job}
-use Rattle.client.specs.declared.Work.the-variants.{Reorganise}
+use Rattle.client.specs.declared.Work.the-variants.{Read, Reorganise}
 use Rattle.client.specs.declared.Outcome.{Outcome}
 use Rattle.client.specs.Client.{fresh, holding, planning, idle, dropLimit, lastNumber}
 use Rattle.client.specs.Message.{isShowable}
@@ -263,11 +263,11 @@ module _ (w : World) (c : ℕ) (sound : Sound w) (may : Conditions w c) (j : Job
     unfolding valueOf
     shows-is = ap (λ u. report (shapeUnder plan) (unitAt W u) (tailAsked w (p .0))) tail-same ∙ shows-same (shapeUnder plan) (shapeUnder (w .held)) (record { 0 = e }) p (unitAt w t) (unitAt W t) (tail-kept .slots-same) says-same
 
-    outcome-is : read .done .outcome ≡ record { number = tailSays w (p .0); position = p; epoch = plan .epoch; page = tailShows w (p .0) }
+    outcome-is : read .done .outcome ≡ record { number = tailSays w (p .0); position = p; epoch = plan .epoch; page = tailShows w (p .0); work = Read p; sent = 2 }
     outcome-is =
         read .outcome-is
-        ∙ (ap (λ n. record { number = n; position = p; epoch = plan .epoch; page = shownBy n (report (shapeUnder plan) (unitAt W (tailOf (setAt (layOf plan) (p .0)))) (unit-read (plan .epoch) p) .page) }) says-is
-        ∙ ap (λ (x : Report). record { number = tailSays w (p .0); position = p; epoch = plan .epoch; page = shownBy (tailSays w (p .0)) (x .page) }) shows-is)
+        ∙ (ap (λ n. record { number = n; position = p; epoch = plan .epoch; page = shownBy n (report (shapeUnder plan) (unitAt W (tailOf (setAt (layOf plan) (p .0)))) (unit-read (plan .epoch) p) .page); work = Read p; sent = 2 }) says-is
+        ∙ ap (λ (x : Report). record { number = tailSays w (p .0); position = p; epoch = plan .epoch; page = shownBy (tailSays w (p .0)) (x .page); work = Read p; sent = 2 }) shows-is)
 
     pub tells : ReadsTail w p (read .done .outcome)
     tells = subst (λ (o : Outcome). ReadsTail w p o) (sym outcome-is) (record {

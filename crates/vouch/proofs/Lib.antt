@@ -47,6 +47,12 @@ pub mod Reaching
 pub mod Stated
 pub mod Numbered
 pub mod Lending
+-- How many requests an operation sends.
+pub mod Bag
+pub mod Chains
+pub mod Sending
+pub mod Posting
+pub mod Sent
 -- The last sentence.
 pub mod Dropping
 pub mod Forward
@@ -68,5 +74,6 @@ pub mod Wrapped
 pub mod ShamRuns
 pub mod Shams
 pub mod CountSham
+pub mod SentExample
 -- Over runs of the code.
 pub mod CodeRuns

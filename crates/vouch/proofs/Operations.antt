@@ -80,7 +80,7 @@ pub record Under (l : Layout) (ms : Moves) (c : ℕ) : Type 0 where
   pub way : UnderWay step l c job ms
 
 module _ (l : Layout) (good : goodValue l ≡ true) (first : l .epoch .0 ≡ 1) where
-  looks : (ms : Moves) (k : ℕ) → 1 ≤ k → k ≤ 4 → (u : ℕ) → clientAt (world l ms) k .stage ≡ Working (Looking u) → ¬ (clientAt (world l ms) k .work ≡ Append)
+  pub looks : (ms : Moves) (k : ℕ) → 1 ≤ k → k ≤ 4 → (u : ℕ) → clientAt (world l ms) k .stage ≡ Working (Looking u) → ¬ (clientAt (world l ms) k .work ≡ Append)
   looks ms k low high u at is =
       let x = clientAt (world l ms) k in
       let ok : LookingOk (come l good first ms .now) (x .work) (x .layout) (x .position .0) u
@@ -93,7 +93,7 @@ module _ (l : Layout) (good : goodValue l ≡ true) (first : l .epoch .0 ≡ 1) 
   went ms m c low high = step-went (world l ms) (come l good first ms .good .clients-long) c low high (looks ms) (m .does) (m .job)
 
   -- a begin that was not refused
-  begins-so : {ms : Moves} {m : Move} {c : ℕ} {j : Job} → Begins step l ms m c j → Began (world l ms) c (m .job)
+  pub begins-so : {ms : Moves} {m : Move} {c : ℕ} {j : Job} → Begins step l ms m c j → Began (world l ms) c (m .job)
   begins-so {ms} {m} {c} b =
       began (world l ms) c (m .job) (come l good first ms .good .clients-long) (subst (λ (s : Step). step (world l ms) s (m .job) .answer ≡ 0) (b .does-begin) (b .not-refused))
 
@@ -160,13 +160,17 @@ module _ (l : Layout) (good : goodValue l ≡ true) (first : l .epoch .0 ≡ 1) 
       let mid = order-mid (order c (range .0) (range .1) part) (not-before (went ms m c (range .0) (range .1))) life used in
       same-way part way (mid .0) (mid .1)
 
-  pub ends-under : {ms : Moves} {m : Move} {c : ℕ} {j : Job} → Ends step l ms m c j → UnderWay step l c j ms
-  ends-under (later way who) = way
-  ends-under {ms} {m} {c} (at-once b who) =
+  -- no operation ends with the move that begins it
+  pub not-at-once : {ms : Moves} {m : Move} {c : ℕ} {j : Job} → Begins step l ms m c j → ¬ (result (world l ms) m .who ≡ c)
+  not-at-once {ms} {m} {c} b who =
       let now = begins-so b in
       let range = client-range c (now .is-client) in
       let none : result (world l ms) m .who ≡ 0 = ap (λ (s : Step). step (world l ms) s (m .job) .who) (b .does-begin) ∙ now .who-none in
-      absurd (omega (arith, none, who, range .0))
+      omega (arith, none, who, range .0)
+
+  pub ends-under : {ms : Moves} {m : Move} {c : ℕ} {j : Job} → Ends step l ms m c j → UnderWay step l c j ms
+  ends-under (later way who) = way
+  ends-under (at-once b who) = absurd (not-at-once b who)
 
   pub ends-by : {ms : Moves} {m : Move} {c : ℕ} {j : Job} → Ends step l ms m c j → EndsBy (world l ms) c j
   ends-by ends = under-agrees (ends-under ends)

@@ -35,7 +35,7 @@ use Rattle.client.specs.declared.Outcome.{Outcome}
 use Rattle.client.specs.declared.turn.Turn.{Turn}
 use Rattle.client.specs.Message.{lastRefusal, isShowable, noPage, plain}
 use Rattle.client.specs.Client.{fresh, busy, jobOf, inPhase, lastNumber}
-use Rattle.client.specs.Turn.{outcomeOf, numbered, next, sends, over}
+use Rattle.client.specs.Turn.{sentSoFar, outcomeOf, numbered, next, sends, over}
 use Rattle.client.specs.Read.{onRead}
 use Rattle.client.specs.Way.{tailFor}
 use Rattle.client.specs.Take.{goesOn, worked, answered}
@@ -135,7 +135,7 @@ module _ (w : World) (c : ℕ) (ready : Ready w c) (p : Position) (below : p .0 
         ∙ takes-answer (numbered y (next y)) says (report (shapeUnder (w .held)) M (read (w .held .epoch) p) .page) a-page (few-told (read-tells (shapeUnder (w .held)) M (w .held .epoch) p)) (eqb says 0) refl
 
     abbrev outcome : Outcome
-    outcome = record { number = says; position = p; epoch = w .held .epoch; page = shows }
+    outcome = record { number = says; position = p; epoch = w .held .epoch; page = shows; work = Read p; sent = 2 }
 
     abbrev pub at : ℕ
     at = length (w .letters)
@@ -193,6 +193,9 @@ module _ (w : World) (c : ℕ) (ready : Ready w c) (p : Position) (below : p .0 
     client-now : clientAt Z′ c ≡ numbered y (next y)
     client-now = getD-set-same (w .clients) (c - 1) (numbered y (next y)) fresh (place w c (w .letters) (ready .is-client) (ready .clients) (ready .few))
 
+    two-sent : sentSoFar (numbered y (next y)) ≡ 2
+    two-sent = omega arith
+
     pub read-goes : ReadGoes
     unfolding exchanges unitSays unitAfter serve
     read-goes = record {
@@ -202,7 +205,7 @@ module _ (w : World) (c : ℕ) (ready : Ready w c) (p : Position) (below : p .0 
           (sends-on w c (w .letters) y ask-tail number-left (exchange-ends w c (w .letters) (ready .is-client) (ready .clients) (ready .few) asks t taken)));
       fine-done = refl;
       who = refl;
-      outcome-is = refl;
+      outcome-is = ap (λ n. record { number = says; position = p; epoch = w .held .epoch; page = shows; work = Read p; sent = n }) two-sent;
       asked = Z;
       leads = leads-there;
       held-is = refl;

@@ -16,6 +16,7 @@ use Rattle.unit.specs.State.{lookup, insert}
 use Rattle.unit.specs.Kinds.{isPage, hasBytes, isGone}
 use Rattle.unit.specs.Unit.{written, says as unit-says, after as unit-after, report}
 use Rattle.sequencer.specs.Rules.{number, position, told, after as sequencer-after}
+use Rattle.client.specs.declared.Work.{Work}
 use Rattle.client.specs.declared.Work.the-variants.{Append, Read, Fill}
 use Rattle.client.specs.declared.state.Job.{Job}
 use Rattle.client.specs.declared.Page.{Page}
@@ -75,18 +76,19 @@ filling =
 abbrev pub page-7 : Page
 page-7 = dataPage 1 (7 ∷ [])
 
-abbrev pub returned : ℕ → Page → Outcome
-returned p g = record { number = 0; position = record { 0 = p }; epoch = record { 0 = 1 }; page = g }
+-- with the page g at p, of the operation w that sent n requests
+abbrev pub returned : ℕ → Page → Work → ℕ → Outcome
+returned p g w n = record { number = 0; position = record { 0 = p }; epoch = record { 0 = 1 }; page = g; work = w; sent = n }
 
 record Ran : Type 0 where
   l-is-good : goodValue l ≡ true
   append-ran : fields.AppendDone l appending deliver 0 (bytes (7 ∷ []))
-  append-returns : result (world l appending) deliver .outcome ≡ returned 0 noPage
+  append-returns : result (world l appending) deliver .outcome ≡ returned 0 noPage Append 4
   append-page : clientAt (world l appending) (append-ran .client) .page ≡ page-7
   read-ran : fields.ReadEnds l reading deliver 0 1 (shows (bytes (7 ∷ [])))
-  read-returns : result (world l reading) deliver .outcome ≡ returned 0 page-7
+  read-returns : result (world l reading) deliver .outcome ≡ returned 0 page-7 (Read (record { 0 = 0 })) 2
   junk-ran : fields.ReadEnds l filling deliver 1 1 (shows junk)
-  junk-returns : result (world l filling) deliver .outcome ≡ returned 1 junkPage
+  junk-returns : result (world l filling) deliver .outcome ≡ returned 1 junkPage (Read (record { 0 = 1 })) 2
 
 -- by the rules, computed
 computed : Ran
@@ -130,7 +132,7 @@ pub append-done : AppendDone step l appending deliver 0 page-7
 unfolding valueOf
 append-done = subst (λ (g : Page). AppendDone step l appending deliver 0 g) (computed .append-page) (append-stated l l-good refl (computed .append-ran))
 
-pub append-returned : result (world l appending) deliver .outcome ≡ returned 0 noPage
+pub append-returned : result (world l appending) deliver .outcome ≡ returned 0 noPage Append 4
 append-returned = computed .append-returns
 
 -- the read ends with its page,
@@ -138,7 +140,7 @@ pub read-ends : ReadEnds step l reading deliver 0
 unfolding valueOf
 read-ends = read-stated l l-good refl (computed .read-ran)
 
-pub read-returned : result (world l reading) deliver .outcome ≡ returned 0 page-7
+pub read-returned : result (world l reading) deliver .outcome ≡ returned 0 page-7 (Read (record { 0 = 0 })) 2
 read-returned = computed .read-returns
 
 -- and the read of what was filled with junk
@@ -146,7 +148,7 @@ pub junk-ends : ReadEnds step l filling deliver 1
 unfolding valueOf
 junk-ends = read-stated l l-good refl (computed .junk-ran)
 
-pub junk-returned : result (world l filling) deliver .outcome ≡ returned 1 junkPage
+pub junk-returned : result (world l filling) deliver .outcome ≡ returned 1 junkPage (Read (record { 0 = 1 })) 2
 junk-returned = computed .junk-returns
 
 -- by demand 3, an append asked for those bytes,

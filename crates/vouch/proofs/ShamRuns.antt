@@ -80,7 +80,7 @@ shows-7 = record { stamp = record { client = 2; life = 1; number = record { 0 = 
 pub record Swapped : Type 0 where
   pub not-refused : result (world l reading) (begin 3 append-9) .answer ≡ 0
   pub ran : fields.ReadEnds l both deliver 0 1 (shows (bytes (7 ∷ [])))
-  pub returns : result (world l both) deliver .outcome ≡ returned 0 page-7
+  pub returns : result (world l both) deliver .outcome ≡ returned 0 page-7 (Read (record { 0 = 0 })) 2
   pub reached : Reaches step l asked-first deliver both deliver 0 1
 
 pub swapped-run : Swapped
@@ -155,9 +155,9 @@ honest =
 
 pub record Astray : Type 0 where
   pub first-ends : ReadEnds elsewhere l astray deliver 1
-  pub first-returns : outcome elsewhere l astray deliver ≡ returned 0 page-7
+  pub first-returns : outcome elsewhere l astray deliver ≡ returned 0 page-7 (Read (record { 0 = 0 })) 2
   pub second-ends : ReadEnds elsewhere l honest deliver 1
-  pub second-returns : outcome elsewhere l honest deliver ≡ returned 1 junkPage
+  pub second-returns : outcome elsewhere l honest deliver ≡ returned 1 junkPage (Read (record { 0 = 1 })) 2
 
 pub astray-run : Astray
 unfolding rising goodSet goodSets goodSpans firstAtZero used good _in?_ inSets usedFrom unitsOf padded layOf valueOf zeros tidyChain tidyChains blankRanges tidy goodValue placed setNumber setAt headOf tailOf after above placeAnswer unitsAt without badDrops emptied planned lastStart goodChains reorganiseAnswer plannedFor isOpen settleAnswer settled settledFirst startedAt offerAnswer offeredTo fetchedFrom sublist keepsSets keepsSpans lawful lookup insert lastEnd edge writtenEnd writtenEdge written sealedAt number position told sequencer-after idle sends dataLimit shapeFor writesAt writesOn beginTurn holds worksOn isShowable pageTaken pageCarried awaited takes allSealed sealsOn reorganises largest within edgesTaken letters-without turned beginNumber begins served taken delivered delivers step kindOf bytesOf pageOf pageShown edged asking fetching offeringTo unitSays unitAfter serve freshUnits freshWorld worldBy fillsOn isPage hasBytes isGone wasWritten unit-says unit-after report

@@ -39,7 +39,7 @@ use Rattle.vouch.proofs.AcrossExample.{asked-first, first-reaches, firs
 
 -- where the rule reports a page of kind k, another number and page
 abbrev instead : ℕ → ℕ → Page → Outcome → Outcome
-instead k n g o = cond (eqb (o .page .kind) k) (record { number = n; position = o .position; epoch = o .epoch; page = g }) o
+instead k n g o = cond (eqb (o .page .kind) k) (record { number = n; position = o .position; epoch = o .epoch; page = g; work = o .work; sent = o .sent }) o
 
 -- Junk is returned as 32 zero bytes, under kind 2.
 abbrev zeros-32 : Page
@@ -92,10 +92,10 @@ since = part-of (part-of (part-of all-of))
 -- what demand 3 says of the read of 0, where a step reports another outcome of what shows data
 by-done : {cap : ℕ} (n : ℕ) (g : Page) → Demand3 (reporting (instead 1 n g)) cap l → OrSealed (reporting (instead 1 n g)) l asked-first 0 page-7 (outcome (reporting (instead 1 n g)) l reading deliver)
 by-done n g d =
-    d .after-done (append-so (instead 1 n g) l (returned 0 noPage) append-returned refl refl append-done) since (reaches-so (instead 1 n g) l first-reaches)
+    d .after-done (append-so (instead 1 n g) l (returned 0 noPage Append 4) append-returned refl refl append-done) since (reaches-so (instead 1 n g) l first-reaches)
     (in-force-so (instead 1 n g) l asked-first first-in-force) (read-so (instead 1 n g) l read-ends)
 
-reports : (n : ℕ) (g : Page) → outcome (reporting (instead 1 n g)) l reading deliver ≡ record { number = n; position = record { 0 = 0 }; epoch = record { 0 = 1 }; page = g }
+reports : (n : ℕ) (g : Page) → outcome (reporting (instead 1 n g)) l reading deliver ≡ record { number = n; position = record { 0 = 0 }; epoch = record { 0 = 1 }; page = g; work = Read (record { 0 = 0 }); sent = 2 }
 reports n g = outcome-is (instead 1 n g) l reading deliver ∙ ap (instead 1 n g) read-returned
 
 -- "Unwritten" after done.
@@ -136,10 +136,10 @@ swapped-page d =
     let g = instead 1 0 page-9 in
     let out = outcome-is g l both deliver ∙ ap g (swapped-run .returns) in
     no-end
-    (d .after-done (append-so g l (returned 0 noPage) append-returned refl refl append-done) since (reaches-so g l (swapped-run .reached)) (in-force-so g l asked-first first-in-force)
+    (d .after-done (append-so g l (returned 0 noPage Append 4) append-returned refl refl append-done) since (reaches-so g l (swapped-run .reached)) (in-force-so g l asked-first first-in-force)
     (read-so g l (read-stated l l-good refl (swapped-run .ran)))) out
   where
-    no-end : {f : Stepping} {o : Outcome} → OrSealed f l asked-first 0 page-7 o → ¬ (o ≡ returned 0 page-9)
+    no-end : {f : Stepping} {o : Outcome} → OrSealed f l asked-first 0 page-7 o → ¬ (o ≡ returned 0 page-9 (Read (record { 0 = 0 })) 2)
     no-end (not-sealed (that-page n is)) e =
         let z : _≡_ {A = ℕ} 7 9 = sym (ap (λ (h : Page). getD (h .bytes) 0 0) is) ∙ ap (λ (x : Outcome). getD (x .page .bytes) 0 0) e in
         omega (arith, z)

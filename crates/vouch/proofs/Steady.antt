@@ -37,10 +37,11 @@ use Rattle.client.specs.Reorganise.{seals, offers, allSealed, sealsOn, reorgani
 use Rattle.client.specs.Take.{goesOn, holds, onFetched, worked, answered}
 use Rattle.client.proofs.Turns.{working-cases}
 
--- d has the operation of c, in its life and with the numbers that it has used
+-- d has the operation of c, in its life, with the numbers that it has used and had used at the begin
 pub record Like (c d : Client) : Type 0 where
   pub life-same : d .life ≡ c .life
   pub used-same : d .used ≡ c .used
+  pub begun-same : d .begun ≡ c .begun
   pub work-same : d .work ≡ c .work
   pub page-same : c .work ≡ Append → d .page ≡ c .page
 
@@ -48,7 +49,7 @@ pub record Like (c d : Client) : Type 0 where
 pub data Steady (c : Client) (b : Bool) : Turn → Type 0 where
   rests-so : Steady c b (rests c)
   sent-so : (d : Client) (q : Query) → b ≡ true → busy (d .stage) ≡ true → Like c d → Steady c b (sent d q)
-  over-so : (d : Client) (n : ℕ) (g : Page) → b ≡ true → d .life ≡ c .life → d .used ≡ c .used → Steady c b (over d n g)
+  over-so : (d : Client) (n : ℕ) (g : Page) → b ≡ true → d .life ≡ c .life → d .used ≡ c .used → d .begun ≡ c .begun → Steady c b (over d n g)
 
 -- ---- whatever is tested, whatever is answered
 
@@ -106,10 +107,10 @@ module _ (c : Client) where
   So = Steady c true
 
   self : Like c c
-  self = record { life-same = refl; used-same = refl; work-same = refl; page-same = λ is. refl }
+  self = record { life-same = refl; used-same = refl; begun-same = refl; work-same = refl; page-same = λ is. refl }
 
   ended : (d : Client) (n : ℕ) → Like c d → So (ends d n)
-  ended d n like = over-so d n noPage refl (like .life-same) (like .used-same)
+  ended d n like = over-so d n noPage refl (like .life-same) (like .used-same) (like .begun-same)
 
   other : (n : ℕ) → So (otherwise c n)
   unfolding otherwise
@@ -119,13 +120,14 @@ module _ (c : Client) where
   next : (d : Client) (s : Phase) (q : Query) → Like c d → So (sends (inPhase d s) q)
   unfolding sends
   next d s q like =
-      let staged : Like c (inPhase d s) = record { life-same = like .life-same; used-same = like .used-same; work-same = like .work-same; page-same = like .page-same } in
+      let staged : Like c (inPhase d s) = record { life-same = like .life-same; used-same = like .used-same; begun-same = like .begun-same; work-same = like .work-same; page-same = like .page-same } in
       either (leb lastNumber (d .used .0)) (ended (inPhase d s) 19 staged) (sent-so (inPhase d s) q refl refl staged)
 
-  on : {d : Client} {e : Client} → e .life ≡ d .life → e .used ≡ d .used → e .work ≡ d .work → e .page ≡ d .page → Like c d → Like c e
-  on life used work page like = record {
+  on : {d : Client} {e : Client} → e .life ≡ d .life → e .used ≡ d .used → e .begun ≡ d .begun → e .work ≡ d .work → e .page ≡ d .page → Like c d → Like c e
+  on life used begun work page like = record {
     life-same = life ∙ like .life-same;
     used-same = used ∙ like .used-same;
+    begun-same = begun ∙ like .begun-same;
     work-same = work ∙ like .work-same;
     page-same = λ is. page ∙ like .page-same is;
   }
@@ -166,7 +168,7 @@ module _ (c : Client) where
   unfolding allSealed
   all-sealed d e like =
       let s = startFor d e in
-      either (eqb (s .answer) 0) (next (planning d (s .layout)) (Offering (s .first)) (offering (s .layout)) (on refl refl refl refl like)) (ended d (s .answer) like)
+      either (eqb (s .answer) 0) (next (planning d (s .layout)) (Offering (s .first)) (offering (s .layout)) (on refl refl refl refl refl like)) (ended d (s .answer) like)
 
   seals-on : (d : Client) (u : ℕ) (e : Edges) → Like c d → So (sealsOn d u e)
   unfolding sealsOn
@@ -178,7 +180,7 @@ module _ (c : Client) where
   unfolding reorganises
   reorganises-so d like =
       let q = planFor d in
-      either (eqb (q .answer) 0) (seals-on (planning d (q .layout)) 0 noEdges (on refl refl refl refl like)) (ended d (q .answer) like)
+      either (eqb (q .answer) 0) (seals-on (planning d (q .layout)) 0 noEdges (on refl refl refl refl refl like)) (ended d (q .answer) like)
 
   goes-on : (w : Work) (d : Client) → Like c d → So (goesOn w d)
   goes-on Append d like = draws-so d 1 like
@@ -192,11 +194,11 @@ module _ (c : Client) where
 
   fetched : (a : Reply) (l : Layout) → So (onFetched c a l)
   unfolding holds
-  fetched a l = held a (either (goodValue l) (goes-on (c .work) (holding c l) (on refl refl refl refl self)) (ended c 10 self)) (other (numberOf a))
+  fetched a l = held a (either (goodValue l) (goes-on (c .work) (holding c l) (on refl refl refl refl refl self)) (ended c 10 self)) (other (numberOf a))
 
   tokened : (n : ℕ) (a : Reply) → So (onToken c n a)
   unfolding writesAt
-  tokened n a = given a (λ p. either (ltb (p .0) limit) (writes-so (atPosition c p) (headFor (atPosition c p)) n (on refl refl refl refl self)) rests-so) (other (numberOf a))
+  tokened n a = given a (λ p. either (ltb (p .0) limit) (writes-so (atPosition c p) (headFor (atPosition c p)) n (on refl refl refl refl refl self)) rests-so) (other (numberOf a))
 
   not-at-head : (n k : ℕ) → So (notAtHead c n k)
   unfolding notAtHead
@@ -218,12 +220,12 @@ module _ (c : Client) where
   looked : (u : ℕ) (a : Reply) (g : Page) → ¬ (c .work ≡ Append) → So (onLooked c u a g)
   unfolding pageCarried
   looked u a g fills =
-      let like : Like c (carrying c g) = record { life-same = refl; used-same = refl; work-same = refl; page-same = λ is. absurd (fills is) } in
+      let like : Like c (carrying c g) = record { life-same = refl; used-same = refl; begun-same = refl; work-same = refl; page-same = λ is. absurd (fills is) } in
       shown a (either (isShowable g) (fills-on (carrying c g) u like) rests-so) (other (numberOf a))
 
   read : (a : Reply) (g : Page) → So (onRead c a g)
   unfolding pageTaken
-  read a g = shown a (either (isShowable g) (over-so c 0 g refl refl refl) rests-so) (other (numberOf a))
+  read a g = shown a (either (isShowable g) (over-so c 0 g refl refl refl refl) rests-so) (other (numberOf a))
 
   trimmed : (u : ℕ) (a : Reply) → So (onTrimmed c u a)
   unfolding trimsOn

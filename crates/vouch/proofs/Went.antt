@@ -106,7 +106,7 @@ module _ (w : World) (four : length (w .clients) ≡ 4) (c : ℕ) (low : 1 ≤ c
           went-on (λ z. omega (arith, z)) (λ e. absurd (not-restart e)) (ap (λ (z : Client). busy (z .stage)) at ∙ (waits ∙ sym was-so))
           (ap (λ (z : Client). z .work) at ∙ like-so .work-same) (λ is. ap (λ (z : Client). z .page) at ∙ like-so .page-same is)
           (subst (λ (z : Client). NotBefore x z) (sym at) (same-life (sym (like-so .life-same)) (omega (arith, ap (λ (n : Request). n .0) (like-so .used-same)))))
-  turned-went {s} {j} i from ls t not-restart (over-so d n g was life used) = go (ℕ-discrete c i)
+  turned-went {s} {j} i from ls t not-restart (over-so d n g was life used begun) = go (ℕ-discrete c i)
     where
       go : Dec (c ≡ i) → Went s j (turned w ls i (over d n g))
       go (no ne) = same-went _ (λ z. ne (sym z)) (λ e. absurd (not-restart e)) (other-client i (idle (d .life) (d .used)) from ne)
@@ -216,7 +216,7 @@ module _ (w : World) (four : length (w .clients) ≡ 4) (c : ℕ) (low : 1 ≤ c
   give-up-went i j = go (isClient i) refl
     where
       turn : (b : Bool) → Steady (clientAt w i) b (cond b (ends (clientAt w i) 20) (rests (clientAt w i)))
-      turn true = over-so (clientAt w i) 20 _ refl refl refl
+      turn true = over-so (clientAt w i) 20 _ refl refl refl refl
       turn false = rests-so
 
       go : (b : Bool) → isClient i ≡ b → Went (GiveUp i) j (cond b (turned w (w .letters) i (giveUp (clientAt w i))) (refused w 17))

@@ -3,6 +3,7 @@ pub mod Runs
 pub mod Pages
 pub mod Operations
 pub mod Demand
+pub mod Sent
 pub mod Lending
 pub mod LastSentence
 pub mod Shapes

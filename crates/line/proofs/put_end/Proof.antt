@@ -21,16 +21,22 @@ put-word-requires-2 c κs = let a = c .before .before .before .before .before .b
 put-page-requires : tie.Need-put-page-requires
 put-page-requires c κs = let a = c .before .before .before .before .before .before .before .before .before .before .before .before .before .before .before .before .args in omega (arith, end-size (a .who) (a .outcome))
 
+put-sent-requires : tie.Need-put-sent-requires
+put-sent-requires c κs = let a = c .before .before .before .before .before .before .before .before .before .before .before .before .before .before .before .before .before .before .before .before .args in omega (arith, end-size (a .who) (a .outcome))
+
 same-length : tie.Need-same-length
 same-length c = search needs
 
 returns : tie.Need-returns
 unfolding endText
 returns c =
-    let epoch = c .before .before .before .before .before .before in
+    let shown = c .before .before .before .before .before .before in
+    let epoch = shown .before .before .before .before in
     let position = epoch .before .before .before .before .before in
     let who = position .before .before .before .before in
-    put-both (put-both (put-both (who .put-who .ensures) (position .put-word .ensures)) (epoch .put-word2 .ensures)) (c .before .before .put-page .ensures)
+    put-both
+    (put-both (put-both (put-both (who .put-who .ensures) (position .put-word .ensures)) (epoch .put-word2 .ensures)) (shown .put-page .ensures))
+    (c .before .before .put-sent .ensures)
 
 pub put-end-spec : {M : Type 1} → statement M
 put-end-spec =
@@ -41,5 +47,6 @@ put-end-spec =
     cast-put-word
     put-word-requires-2
     put-page-requires
+    put-sent-requires
     same-length
     returns)

@@ -14,7 +14,7 @@ short : (c : tie.Start) → length (lineOf (c .args .number) (c .args .answer) (
 short c =
     let o = c .args .outcome in
     let room : length (o .page .bytes) ≡ 80 = simp length-map at (c .good .1 .1 .1 .1 .1 .0 .1 .1 .1 .1 .1 .0 .1 .1 .1 .1 .0 .1 .0 .1) in
-    let bounded : Bounded o = record { number = omega arith; position = omega arith; epoch = omega arith; kind = omega arith; bytes = omega arith } in
+    let bounded : Bounded o = record { number = omega arith; position = omega arith; epoch = omega arith; kind = omega arith; sent = omega arith; bytes = omega arith } in
     line-few (c .args .who) o (omega arith) bounded (c .args .number) (c .args .answer) (omega arith) (omega arith)
 
 slice-aggregate-put-all : tie.Need-slice-aggregate-put-all
