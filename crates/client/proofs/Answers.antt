@@ -27,10 +27,10 @@ module _ {A : Type 0} where
   not_given (Edged e) k f d = refl
   not_given (Refused n) k f d = refl
 
-  pub not_fine : (a : Reply) → OneOf (0 ∷ 1 ∷ 3 ∷ 4 ∷ 5 ∷ []) (tag_of T.the_type a) → (x d : A) → if_fine a x d ≡ d
+  pub not_fine : (a : Reply) → (a ≡ Fine → ⊥) → (x d : A) → if_fine a x d ≡ d
   not_fine Held k x d = refl
   not_fine (Given p) k x d = refl
-  not_fine Fine k x d = absurd (miss (0 ∷ 1 ∷ 3 ∷ 4 ∷ 5 ∷ []) 2 tt k)
+  not_fine Fine k x d = absurd (k refl)
   not_fine Shown k x d = refl
   not_fine (Edged e) k x d = refl
   not_fine (Refused n) k x d = refl

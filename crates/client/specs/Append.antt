@@ -1,5 +1,5 @@
 -- Append: take a token, write head to tail (docs/RULES.md, 8.2).
-use Rattle.std.specs.Prelude.{ℕ, ◌+◌, cond, ◌||◌, eqb, ltb, leb}
+use Rattle.std.specs.Prelude.{ℕ, ◌+◌, cond, ◌||◌, eqb, ltb}
 use Rattle.num.specs.Limits.{limit}
 use Rattle.num.specs.declared.Position.{Position}
 use Rattle.client.specs.declared.UnitAsk.TheVariants.{Write}

@@ -7,7 +7,7 @@ use Rattle.layout.specs.Lay.{sets_limit}
 use Rattle.layout.specs.Value.{blank, no_chain}
 use Rattle.client.specs.declared.Page.{Page}
 use Rattle.client.specs.declared.Work.{Work}
-use Rattle.client.specs.declared.Work.TheVariants.{Append, Read, Fill, Trim, Prune, Reorganise}
+use Rattle.client.specs.declared.Work.TheVariants.{Append, Reorganise}
 use Rattle.client.specs.declared.Change.{Change}
 use Rattle.client.specs.declared.state.Job.{Job}
 use Rattle.client.specs.declared.Phase.{Phase}

@@ -14,14 +14,14 @@ use num::Request;
 use num::answer::{Answer, pick};
 
 // What a begin answers, and what comes of it.
-#[derive(Drop)]
+#[derive(Clone, Copy)]
 pub struct Begun {
     pub answer: u8,
     pub turn: Turn,
 }
 
 // What a restart answers, and the client afterwards.
-#[derive(Drop)]
+#[derive(Clone, Copy)]
 pub struct Restarted {
     pub answer: u8,
     pub client: Client,

@@ -1,4 +1,6 @@
 // A client: one operation and one outstanding request at a time. It knows a unit only through its answers.
+#![tactic(auto)]
+
 use layout::{Layout, Wish};
 use num::{Edges, Epoch, Position, Request};
 
@@ -17,7 +19,7 @@ pub mod turn;
 pub mod way;
 
 // What a unit is asked.
-#[derive(Drop)]
+#[derive(Clone, Copy)]
 pub enum UnitAsk {
     Write(Epoch, Position),
     Read(Epoch, Position),
@@ -27,7 +29,7 @@ pub enum UnitAsk {
 }
 
 // What is asked: of the holder, of the sequencer, or of a unit by its number.
-#[derive(Drop)]
+#[derive(Clone, Copy)]
 pub enum Ask {
     Fetch,
     Token(Epoch),
@@ -37,7 +39,7 @@ pub enum Ask {
 }
 
 // Data or junk: `len` bytes, and blank past them. There is room for those of either shape.
-#[derive(Drop)]
+#[derive(Clone, Copy)]
 pub struct Page {
     pub kind: u8,
     pub len: u8,
@@ -45,7 +47,7 @@ pub struct Page {
 }
 
 // A request: the page of a write and the layout of an offer are blank elsewhere.
-#[derive(Drop)]
+#[derive(Clone, Copy)]
 pub struct Query {
     pub ask: Ask,
     pub page: Page,
@@ -53,7 +55,7 @@ pub struct Query {
 }
 
 // What was answered: a layout is held, a token given, the work done, a page shown, a unit's edges told, or a number.
-#[derive(Drop)]
+#[derive(Clone, Copy)]
 pub enum Reply {
     Held,
     Given(Position),
@@ -64,7 +66,7 @@ pub enum Reply {
 }
 
 // An answer: the page shown and the layout held are blank elsewhere.
-#[derive(Drop)]
+#[derive(Clone, Copy)]
 pub struct Response {
     pub reply: Reply,
     pub page: Page,
@@ -72,7 +74,7 @@ pub struct Response {
 }
 
 // A request bears client, life and number, and so does its answer.
-#[derive(Drop)]
+#[derive(Clone, Copy)]
 pub struct Stamp {
     pub client: u8,
     pub life: u16,
@@ -80,7 +82,7 @@ pub struct Stamp {
 }
 
 // What is asked of a client.
-#[derive(Drop)]
+#[derive(Clone, Copy)]
 pub enum Work {
     Append,
     Read(Position),
@@ -91,7 +93,7 @@ pub enum Work {
 }
 
 // What a reorganise changes: units to drop, the first `count`, and new sets if wanted.
-#[derive(Drop)]
+#[derive(Clone, Copy)]
 pub struct Change {
     pub count: u8,
     pub drops: [u8; Change::DROPS],
@@ -100,7 +102,7 @@ pub struct Change {
 
 // What the outstanding request is once the layout is fetched, with the unit it went to, the tokens taken so far,
 // the largest edges so far, and where the sequencer is to start.
-#[derive(Drop)]
+#[derive(Clone, Copy)]
 pub enum Phase {
     Drawing(u8),
     Writing(u8, u8),
@@ -115,7 +117,7 @@ pub enum Phase {
 }
 
 // No operation; its layout is being fetched; or it has one, and works under it.
-#[derive(Drop)]
+#[derive(Clone, Copy)]
 pub enum Stage {
     Idle,
     Fetching,
@@ -124,7 +126,7 @@ pub enum Stage {
 
 // `used`: how many request numbers of this life are used, which is the last one; `begun`: how many were when the operation began.
 // `page` is the page carried, `position` the position under way, `layout` the one fetched, `plan` the one to be offered.
-#[derive(Drop)]
+#[derive(Clone, Copy)]
 pub struct Client {
     pub life: u16,
     pub used: Request,
@@ -138,7 +140,7 @@ pub struct Client {
     pub plan: Layout,
 }
 
-#[derive(Drop)]
+#[derive(Clone, Copy)]
 pub enum Act {
     Rests,
     Sends(Request),
@@ -147,7 +149,7 @@ pub enum Act {
 
 // How an operation ended: its number, the position under way, the epoch of the layout it fetched, the page that a read was shown,
 // what the operation was, and how many requests it sent.
-#[derive(Drop)]
+#[derive(Clone, Copy)]
 pub struct Outcome {
     pub number: u8,
     pub position: Position,

@@ -7,7 +7,7 @@ use layout::{Chain, Layout, Wish};
 use num::{Epoch, Position, Request};
 
 // An operation as it is asked for: an append brings its data, a reorganise its change.
-#[derive(Drop)]
+#[derive(Clone, Copy)]
 pub struct Job {
     pub work: Work,
     pub len: u8,

@@ -8,7 +8,7 @@ use num::answer::Answer;
 use num::{Epoch, Position, Request};
 
 // The client afterwards; the request where one is sent, and the outcome where the operation ends.
-#[derive(Drop)]
+#[derive(Clone, Copy)]
 pub struct Turn {
     pub client: Client,
     pub act: Act,

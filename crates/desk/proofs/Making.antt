@@ -4,21 +4,20 @@ use mathlib.Core.Bool.{Bool, true, false, ◌||◌, not, cond}
 use mathlib.Core.List.{List}
 use mathlib.Core.Path.{◌≡◌, refl, sym, ap, ◌∙◌}
 use native.Mathlib.Omega.{arith}
-use borrow.Author.Tests.{eqb-true, eqb-false, not-false, eq-eqb}
+use borrow.Author.Tests.{eqb-true, eqb-false}
 use lib.Dec.{eqb}
 use lib.ListN.{length}
 use lib.Seq.{sets}
 use Rattle.num.specs.declared.Edges.{Edges}
-use Rattle.num.specs.Checks.{lowest}
 use Rattle.num.proofs.Tests.{cond_zero}
 use Rattle.layout.specs.declared.Layout.{Layout}
 use Rattle.layout.specs.declared.Wish.{Wish}
 use Rattle.layout.specs.declared.plan.Planned.{Planned}
 use Rattle.layout.specs.declared.plan.Started.{Started}
 use Rattle.layout.specs.Lay.{good}
-use Rattle.layout.specs.Value.{lay_of, value_of, blank, good_value}
+use Rattle.layout.specs.Value.{lay_of, blank, good_value}
 use Rattle.layout.specs.Codec.{sets_said, wish_said, bytes_of, write_refused, write_answer, LayoutWritten}
-use Rattle.layout.specs.Plan.{bad_drops, plan_checks, planned, planned_for, new_of, ends_open, new_start, start_answer, started_at, reorganise_answer}
+use Rattle.layout.specs.Plan.{bad_drops, planned_for, ends_open, started_at, reorganise_answer}
 use Rattle.layout.proofs.GoodLay.{good_says}
 use Rattle.layout.proofs.ValueOf.{value_of_good}
 use Rattle.layout.proofs.ReorganiseAnswer.{reorganise_fine}

@@ -1,4 +1,6 @@
 // Layouts and plays for tests on a desk: numbers and byte slices. A slice is a pointer and then a length.
+#![tactic(auto)]
+
 ghost use Rattle.play.specs.Shown.{IsShown};
 ghost use Rattle.desk.specs.Told.{IsGoodTold, IsSetTold, IsOfferTold, IsPlanTold};
 

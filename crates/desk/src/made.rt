@@ -12,7 +12,7 @@ use num::answer::{Answer, pick};
 use num::{Edges, Position};
 
 // The new layout; a blank one where it is refused.
-#[derive(Drop)]
+#[derive(Clone, Copy)]
 pub(crate) struct Made {
     pub(crate) answer: u8,
     pub(crate) layout: Layout,

@@ -12,7 +12,7 @@ use Rattle.history.specs.History.Laid.{laid_now, laid_before}
 use Rattle.history.specs.History.Mark.{page}
 use Rattle.history.specs.History.Marked.{marked_now, marked_before}
 use Rattle.history.specs.Events.{Takes, MayMark, MayInstall, Run}
-use Rattle.history.specs.Events.Run.{run_step}
+use Rattle.history.specs.Events.Run.{run_fresh, run_step}
 use Rattle.history.proofs.Order.{less_before}
 use Rattle.history.proofs.Moments.{lift, longer}
 use Rattle.history.proofs.Epochs.{held_laid, laid_good, Live, live_back, one_layout}
@@ -52,6 +52,7 @@ joined {h} {L} {p} {u} {v} {m} {a} may old su sv lt mk less = go (dec_lt (may.su
 
 pub chain : {h : History} {L : Map} {p : Pos} {u v : UnitNo} {m : Mark} {a : Epoch} →
     Run h → Laid h L → Serves L p u → Serves L p v → u < v → Live h L v → Marked h v p m a → MarkedBy h u p m L.epoch
+chain (run_fresh _ _) _ _ _ _ _ mk = elim mk [ ]
 chain (run_step run may) (laid_before laid) su sv lt live (marked_now there) = lift (walked_before run laid su sv lt (live_back may live) may there)
 chain (run_step run may) (laid_before laid) su sv lt live (marked_before mk) = lift (chain run laid su sv lt (live_back may live) mk)
 chain {L = L} {p} {u} {v} {m} {a} (run_step run may) laid_now su sv lt live (marked_before mk) =

@@ -7,7 +7,7 @@ use Rattle.history.specs.Words.{UnitNo, ◌∈◌, Before, Last, Rising}
 use Rattle.history.specs.Words.◌∈◌.{first, next}
 use Rattle.history.specs.Words.Before.{before_here, before_later}
 use Rattle.history.specs.Words.Last.{last_here, last_later}
-use Rattle.history.specs.Words.Rising.{rising_more}
+use Rattle.history.specs.Words.Rising.{rising_none, rising_more}
 
 pub before_in : {u v : UnitNo} {us : List UnitNo} → Before u v us → u ∈ us
 before_in (before_here there) = first
@@ -18,10 +18,12 @@ before_behind (before_here there) = next there
 before_behind (before_later rest) = next (before_behind rest)
 
 pub before_less : {u v : UnitNo} {us : List UnitNo} → Rising us → Before u v us → u < v
+before_less rising_none b = elim b [ ]
 before_less {v = v} (rising_more above rising) (before_here there) = above v there
 before_less (rising_more above rising) (before_later rest) = before_less rising rest
 
 pub less_before : {u v : UnitNo} {us : List UnitNo} → Rising us → u ∈ us → v ∈ us → u < v → Before u v us
+less_before rising_none u_in _ _ = elim u_in [ ]
 less_before (rising_more above rising) first first lt = absurd (omega arith)
 less_before (rising_more above rising) first (next v_in) lt = before_here v_in
 less_before {u = u} (rising_more above rising) (next u_in) first lt = absurd (omega (arith, above u u_in))

@@ -60,9 +60,9 @@ settled_next {h} {old} {new} {p} {m} run laid next s = record { laid = laid; all
 
 settled_after : {h : History} {L₁ L₂ : Map} {p : Pos} {m : Mark} (k : ℕ) → Run h → Laid h L₂ → L₂.epoch ≡ k + L₁.epoch → Settled h L₁ p m → Settled h L₂ p m
 settled_after {h} {p = p} {m} zero run laid at s = subst (λ l. Settled h l p m) (laid_one run s.laid laid (omega arith)) s
-settled_after {L₁ = L₁} (suc k) run laid at s =
+settled_after {L₁ = L₁} {L₂ = L₂} (suc k) run laid at s =
     let before = laid_earlier (k + L₁.epoch) run laid (omega (arith, laid_from run s.laid)) (omega arith) in
-    settled_next run laid (omega (arith, before.at)) (settled_after k run before.laid before.at s)
+    settled_next run laid (omega (arith, before.at)) (settled_after {L₂ = before.layout} k run before.laid before.at s)
 
 pub settled_later : {h : History} {L₁ L₂ : Map} {p : Pos} {m : Mark} → Run h → Laid h L₂ → L₁.epoch ≤ L₂.epoch → Settled h L₁ p m → Settled h L₂ p m
 settled_later {L₁ = L₁} {L₂} run laid le s = settled_after (L₂.epoch - L₁.epoch) run laid (omega arith) s

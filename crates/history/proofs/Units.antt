@@ -1,6 +1,7 @@
 -- What each event does to a unit, and what it leaves alone: so that a unit's memory and the history go together.
 -- Rests on specs/Edges and Safety.
 use mathlib.Core.Path.{◌≡◌, refl, sym}
+use mathlib.Core.Logic.{⊎_elim}
 use mathlib.Core.Bool.{Bool, true, false, cond}
 use Prim.Native.Nat.{◌≤◌}
 use lib.Dec.{eqb}
@@ -17,6 +18,7 @@ use Rattle.history.specs.Events.{Free}
 use Rattle.history.specs.Edges.{Edge}
 use Rattle.history.specs.Safety.{Answers}
 use Rattle.history.specs.Safety.Answers.{has_page, has_gone, has_none}
+use Rattle.history.proofs.Marks.{mark_or_old}
 
 -- ---- what an event touches
 
@@ -59,10 +61,7 @@ shown_as gone = trimmed
 
 -- where a unit takes a mark it answers with it: a page was taken where nothing was, and what is gone is trimmed whatever was there before
 pub mark_shows : {h : History} {u : UnitNo} {e : Epoch} {ps : Stretch} {p : Pos} (m : Mark) → Free h u p m → Covers ps p → Answers (h ▹ mark u e ps m) u p (shown_as m)
-mark_shows {h} {u} {e} {ps} {p} (page X) free there = has_page (marked_now there) not_gone
-  where
-    not_gone : (b : Epoch) → ¬ Marked (h ▹ mark u e ps (page X)) u p gone b
-    not_gone b (marked_before away) = free gone b away
+mark_shows {h} {u} {e} {ps} {p} (page X) free there = has_page (marked_now there) (λ b away. ⊎_elim (λ same. absurd (cc)) (free gone b) (mark_or_old away))
 mark_shows gone free there = has_gone (marked_now there)
 
 -- ---- the sealed epoch

@@ -1,4 +1,6 @@
 // A yard kept by value but for the memories, so that a program can hold it: its own table and sequencer are lent to each step.
+#![tactic(auto)]
+
 ghost use Rattle.kept.specs.Promises.{IsKeptStep, IsKeptMade};
 
 use client::state::Job;
@@ -8,7 +10,7 @@ use sequencer::Sequencer;
 use yard::fresh::fresh;
 use yard::step::step;
 
-#[derive(Drop)]
+#[derive(Clone, Copy)]
 pub struct Kept {
     pub yard: Yard,
     pub sequencer: Sequencer,
@@ -16,14 +18,14 @@ pub struct Kept {
 }
 
 // What a step answers, as `Stepped` says it, and the sequencer and the table afterwards.
-#[derive(Drop)]
+#[derive(Clone, Copy)]
 pub struct KeptStep {
     pub stepped: Stepped,
     pub sequencer: Sequencer,
     pub table: [Letter; Yard::LETTERS],
 }
 
-#[derive(Drop)]
+#[derive(Clone, Copy)]
 pub struct KeptMade {
     pub answer: u8,
     pub kept: Kept,

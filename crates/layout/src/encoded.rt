@@ -10,7 +10,7 @@ use crate::place::{clip, in_sets};
 use crate::{Chain, Layout, Range};
 use num::answer::pick;
 
-#[derive(Drop)]
+#[derive(Clone, Copy)]
 pub struct Encoded {
     pub bytes: [u8; Layout::SIZE],
     pub count: usize,

@@ -8,13 +8,13 @@ use crate::successor::lawful;
 use num::Epoch;
 use num::answer::{Answer, pick};
 
-#[derive(Drop)]
+#[derive(Clone, Copy)]
 pub struct Offered {
     pub answer: u8,
     pub held: Layout,
 }
 
-#[derive(Drop)]
+#[derive(Clone, Copy)]
 pub struct Fetched {
     pub answer: u8,
     pub layout: Layout,

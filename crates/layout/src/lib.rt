@@ -1,4 +1,6 @@
 // Layouts: which units hold which positions, as values and as bytes, and how one layout may follow another.
+#![tactic(auto)]
+
 ghost use Rattle.std.specs.Prelude.{◌≡◌};
 ghost use Rattle.layout.specs.Value.{blank};
 
@@ -15,21 +17,21 @@ pub mod successor;
 pub mod write;
 
 // A set of units, rising: the first is the head, the last the tail.
-#[derive(Drop)]
+#[derive(Clone, Copy)]
 pub struct Chain {
     pub count: u8,
     pub units: [u8; Chain::UNITS],
 }
 
 // From `start` on, positions go in turn to the next `sets` sets.
-#[derive(Drop)]
+#[derive(Clone, Copy)]
 pub struct Range {
     pub start: Position,
     pub sets: u8,
 }
 
 // The shape is the kind of all units of the yard. Entries past a count are blank, so that equal layouts are equal values.
-#[derive(Drop)]
+#[derive(Clone, Copy)]
 pub struct Layout {
     pub epoch: Epoch,
     pub shape: u8,
@@ -40,7 +42,7 @@ pub struct Layout {
 }
 
 // The new sets that are wanted: the first `count`. Those past the count are not looked at; for more than 16 there is no room.
-#[derive(Drop)]
+#[derive(Clone, Copy)]
 pub struct Wish {
     pub count: u8,
     pub sets: [Chain; Layout::SETS],

@@ -11,7 +11,7 @@ use num::answer::{Answer, pick};
 use num::bytes::{size, wide};
 
 // The number of a position's set, counted from 0.
-#[derive(Drop)]
+#[derive(Clone, Copy)]
 pub struct Placed {
     pub answer: u8,
     pub set: u8,
@@ -46,7 +46,7 @@ pub(crate) fn range_total(l: Layout) -> usize
 
 // Whether `u` is one of these units.
 pub(crate) fn among(units: &[u8], u: u8) -> bool
-    ensures { result ≡ u in? (λ x. x.now) units.entry }
+    ensures { result ≡ u in? units.now }
 {
     let mut found = false;
     let mut i = 0;

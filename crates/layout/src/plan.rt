@@ -15,14 +15,14 @@ use num::largest::larger;
 use num::{Edges, Epoch, Position};
 
 // The new layout, the start of its new range still open.
-#[derive(Drop)]
+#[derive(Clone, Copy)]
 pub struct Planned {
     pub answer: u8,
     pub layout: Layout,
 }
 
 // The new layout, and where the sequencer is to be started.
-#[derive(Drop)]
+#[derive(Clone, Copy)]
 pub struct Started {
     pub answer: u8,
     pub layout: Layout,

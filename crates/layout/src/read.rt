@@ -34,7 +34,7 @@ pub(crate) fn chain_from(b: &[u8], at: usize) -> Chain
 }
 
 // Sets that were read, and where the bytes behind them start.
-#[derive(Drop)]
+#[derive(Clone, Copy)]
 pub(crate) struct Sets {
     pub(crate) sets: [Chain; Layout::SETS],
     pub(crate) past: usize,
@@ -86,7 +86,7 @@ fn range_from(b: &[u8], at: usize) -> Range
 }
 
 // Ranges that were read.
-#[derive(Drop)]
+#[derive(Clone, Copy)]
 struct Ranges {
     ranges: [Range; Layout::RANGES],
 }
@@ -171,7 +171,7 @@ fn or_blank(taken: bool, l: Layout) -> Layout
     if taken { l } else { Layout::blank() }
 }
 
-#[derive(Drop)]
+#[derive(Clone, Copy)]
 pub struct Read {
     pub answer: u8,
     pub layout: Layout,

@@ -8,7 +8,7 @@ use crate::encoded::{Encoded, bytes_of};
 use crate::good::is_good;
 use num::answer::{Answer, pick};
 
-#[derive(Drop)]
+#[derive(Clone, Copy)]
 pub struct Wrote {
     pub answer: u8,
     // How many bytes were written.

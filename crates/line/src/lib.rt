@@ -1,4 +1,6 @@
 // The line of one step of a play, in a lent buffer.
+#![tactic(auto)]
+
 ghost use Rattle.std.specs.Prelude.{◌≡◌, cond, [], eqb, ◌+◌, ◌≤◌, length, take};
 ghost use Rattle.std.proofs.lemmas.List.Edits.{sets};
 ghost use Rattle.line.specs.Put.{IsPut};
@@ -9,7 +11,7 @@ use client::{Outcome, Page, Work};
 
 pub mod text;
 
-#[derive(Drop)]
+#[derive(Clone, Copy)]
 pub struct Line;
 
 impl Line {

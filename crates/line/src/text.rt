@@ -103,7 +103,7 @@ pub(crate) fn put_bytes(line: &mut [u8], at: usize, bytes: &[u8], len: u8) -> us
 {
     let n = within(len, bytes.len());
     if n == 0 {
-        put_byte(line, at, b'_')
+        put_byte(line, at, b'-')
     } else {
         put_hex(line, at, bytes, n)
     }

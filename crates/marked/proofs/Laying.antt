@@ -1,6 +1,6 @@
 -- From what the layouts' functions promise to what a row is told of example 10's layout.
 use Prim.Native.Nat.{ℕ, ◌%◌}
-use mathlib.Core.List.{List, [], ◌∷◌}
+use mathlib.Core.List.{[], ◌∷◌}
 use mathlib.Core.Path.{◌≡◌, ◌∙◌}
 use lib.ListN.{get_or}
 use Rattle.num.specs.Bytes.{number_at}

@@ -1,7 +1,7 @@
 // A row of the table: what is asked of a unit or of a layout, and what it must answer.
 use num::{Epoch, Position};
 
-#[derive(Drop)]
+#[derive(Clone, Copy)]
 pub enum Ask {
     // A fresh memory of the unit of that number, in the shape that the byte names.
     Fresh(u32, u8),
@@ -25,14 +25,14 @@ pub enum Ask {
 
 // The number answered; of a read also the kind and the length, of an edge request the edge and the written edge, of the floor the floor; of a position the
 // number of its set, counted from 0, of a set how many units it has and the units, a byte each, lowest first. 0 elsewhere.
-#[derive(Drop)]
+#[derive(Clone, Copy)]
 pub struct Told {
     pub answer: u64,
     pub first: u64,
     pub second: u64,
 }
 
-#[derive(Drop)]
+#[derive(Clone, Copy)]
 pub struct Row {
     // The example of docs/RULES.md, 13, that it belongs to.
     pub example: u64,

@@ -1,7 +1,7 @@
 -- A play goes on: what is kept is what the run's moves leave, and what is still to come of its lines.
 -- Rests on Reading, Fitting and vouch's `lends`.
 use Prim.Native.Nat.{ℕ, zero, suc, ◌+◌, ◌-◌, ◌≤◌, ◌<◌}
-use native.Mathlib.Nat.{add-zero, sub-zero, sub_self}
+use native.Mathlib.Nat.{sub-zero, sub_self}
 use native.Mathlib.Numerals.{add-one}
 use native.Mathlib.Decide.{dec_le}
 use native.Mathlib.Omega.{arith}
@@ -32,8 +32,8 @@ use Rattle.play.specs.Fit.{joined}
 use Rattle.play.specs.Text.{move_no, before, line_no, lines_from}
 use Rattle.play.specs.Shown.{shown_of}
 use Rattle.play.specs.Going.{kept_lent, after_of, line_in, IsLineShown, Ready, Ran}
-use Rattle.play.proofs.Fitting.{Coming, Come, starts, ends, passes, shows, at_most}
-use Rattle.play.proofs.Reading.{Plays, plays}
+use Rattle.play.proofs.Fitting.{Coming, starts, ends, passes, shows, at_most}
+use Rattle.play.proofs.Reading.{Plays}
 
 -- ---- the yard
 

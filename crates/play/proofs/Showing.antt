@@ -1,16 +1,15 @@
 -- One line is shown: from what putting it answers to what is shown then.
 use Prim.Native.Nat.{ℕ, ◌+◌, ◌≤◌, ◌<◌}
-use mathlib.Core.Bool.{Bool, true, false, cond}
+use mathlib.Core.Bool.{false}
 use mathlib.Core.List.{List}
-use mathlib.Core.Path.{◌≡◌, refl, sym, ap, ◌∙◌}
-use native.Mathlib.Omega.{arith}
+use mathlib.Core.Path.{◌≡◌, sym, ◌∙◌}
 use borrow.Author.Tests.{le-leb, lt-leb, lt-ltb, le-ltb}
 use lib.ListN.{length}
 use Rattle.client.specs.declared.Outcome.{Outcome}
 use Rattle.line.specs.Line.{line_of, IsLinePut}
 use Rattle.line.proofs.Fitting.{line_refused, line_stands}
 use Rattle.play.specs.declared.Shown.{Shown}
-use Rattle.play.specs.Going.{with_line, filled, IsLineShown}
+use Rattle.play.specs.Going.{filled, IsLineShown}
 
 -- its number was not asked for
 pub early : {s : Shown} {from n : ℕ} {x out : List ℕ} → n < from → IsLineShown s from n x out s out

@@ -1,11 +1,9 @@
 -- What a call is told: of a play its lines, of any other file nothing.
 use Prim.Native.Nat.{ℕ, ◌*◌}
-use mathlib.Core.Bool.{Bool, true, false, cond}
 use mathlib.Core.List.{List}
-use mathlib.Core.Path.{◌≡◌, refl, sym, ap, ◌∙◌}
+use mathlib.Core.Path.{◌≡◌, sym, ◌∙◌}
 use lib.ListN.{length, replicate, length-replicate}
 use Rattle.num.proofs.Telling.{told_new, told_held}
-use Rattle.rule.specs.declared.Letter.{Letter}
 use Rattle.rule.specs.World.{unit_limit, letter_limit, blank_letter}
 use Rattle.rule.specs.Lent.{unit_size}
 use Rattle.rule.specs.Fresh.{fresh_number_of, makes}
@@ -16,11 +14,11 @@ use Rattle.vouch.specs.Runs.Moves.{none}
 use Rattle.vouch.specs.Lending.{lent}
 use Rattle.vouch.proofs.Lending.{lent_first}
 use Rattle.script.specs.declared.judge.Judged.{Judged}
-use Rattle.script.specs.Play.{is_play, layout_of, judged_of}
+use Rattle.script.specs.Play.{layout_of, judged_of}
 use Rattle.script.proofs.Answers.{judged_answer, judged_fine, judged_none}
 use Rattle.play.specs.declared.Shown.{Shown}
 use Rattle.play.specs.Shown.{IsShown}
-use Rattle.play.specs.Going.{kept_lent, Ready, Ran}
+use Rattle.play.specs.Going.{Ready, Ran}
 use Rattle.play.proofs.Reading.{plays}
 use Rattle.play.proofs.Running.{same_lent}
 

@@ -1,5 +1,5 @@
 -- On the way to what is shown: what the inner functions promise.
-use Rattle.std.specs.Prelude.{ℕ, ◌+◌, ◌≤◌, ◌<◌, Bool, true, false, cond, List, ◌≡◌, leb, ltb, length, drop}
+use Rattle.std.specs.Prelude.{ℕ, ◌+◌, ◌≤◌, ◌<◌, Bool, true, false, cond, List, ◌≡◌, leb, ltb, length}
 use Rattle.std.proofs.lemmas.List.Edits.{sets}
 use Rattle.rule.specs.declared.Stepped.{Stepped}
 use Rattle.rule.specs.Lent.{Lent, lent_of}
@@ -10,7 +10,7 @@ use Rattle.vouch.specs.Lending.{lent}
 use Rattle.script.specs.Play.{is_play, layout_of, count_of, first_of}
 use Rattle.line.specs.Line.{line_of}
 use Rattle.play.specs.declared.Shown.{Shown}
-use Rattle.play.specs.Fit.{joined, fit}
+use Rattle.play.specs.Fit.{joined}
 use Rattle.play.specs.Shown.{shown_of}
 
 -- ---- what is kept

@@ -1,6 +1,6 @@
 -- What a play shows, from its bytes to its text: from the fresh yard, what the yard's rule makes of each step, and the line of it.
 -- Rests on script (the steps of a file), vouch (moves and the yards between them), line (the line of a step) and Fit.
-use Rattle.std.specs.Prelude.{ℕ, zero, suc, cond, List, [], ◌∷◌, ◌++◌}
+use Rattle.std.specs.Prelude.{ℕ, zero, suc, cond, List, [], ◌∷◌}
 use Rattle.rule.specs.Steps.{Done}
 use Rattle.vouch.specs.Runs.{Move, Moves, result, world}
 use Rattle.vouch.specs.Runs.Moves.{none, ◌▸◌}

@@ -1,4 +1,6 @@
 // A play, run from its fresh yard, and the lines that it shows.
+#![tactic(auto)]
+
 ghost use Rattle.std.specs.Prelude.{◌≡◌};
 ghost use Rattle.play.specs.Shown.{IsShown};
 ghost use Rattle.play.specs.Going.{after_of, line_in, IsLineShown, Showing, Ready, Ran};
@@ -11,7 +13,7 @@ use script::judge::judge;
 use script::step::step_at;
 
 // The lines shown so far and their bytes; over: none is to come, since the next has no room or none is asked for.
-#[derive(Drop)]
+#[derive(Clone, Copy)]
 struct Shown {
     lines: u32,
     written: usize,

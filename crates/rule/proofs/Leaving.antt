@@ -4,10 +4,8 @@ use mathlib.Core.Bool.{true, not, ◌||◌}
 use mathlib.Core.List.{List, [], ◌∷◌, ◌++◌}
 use Prim.Native.Nat.{ℕ, zero, suc, ◌+◌, ◌-◌, ◌≤◌, ◌<◌, max}
 use native.Mathlib.Omega.{arith}
-use lib.Dec.{eqb}
 use lib.ListN.{length, take, drop, get_or, replicate, length-append, length-drop, length-replicate}
-use borrow.Author.Tests.{eqb-true, eq-eqb, le-ltb}
-use Rattle.num.proofs.Tests.{and_both}
+use borrow.Author.Tests.{eq-eqb, le-ltb}
 use Rattle.layout.specs.Value.{good_value}
 use Rattle.layout.proofs.ValueOf.{value_known}
 use Rattle.unit.specs.declared.shape.Shape.{Shape}

@@ -33,17 +33,15 @@ use Rattle.client.specs.declared.Work.TheVariants as work
 use Rattle.client.specs.declared.Change.{Change}
 use Rattle.client.specs.declared.state.Job.{Job}
 use Rattle.client.specs.Message.{no_refusal, is_showable, data_limit}
-use Rattle.client.specs.Client.{idle, in_phase, at_position, carrying, holding, planning, job_of, append_of, reorganise_of, no_change}
-use Rattle.client.specs.Turn.{outcome_of, rests, over, ends, numbered, sends, otherwise}
-use Rattle.client.specs.Way.{head_for, tail_for, after_for, unit_above, plan_for, start_for}
-use Rattle.client.specs.Append.{draws, writes, writes_at, on_token, writes_on, not_at_head, not_later, not_written, on_written}
-use Rattle.client.specs.Fill.{page_carried, fills, looks, fills_on, not_filled, on_filled, on_looked}
-use Rattle.client.specs.Read.{page_taken, reads, on_read}
-use Rattle.client.specs.Trim.{trims, trims_on, on_trimmed}
-use Rattle.client.specs.Job.{data_page}
-use Rattle.client.specs.Begin.{begin_answer, with_job, begin_turn, restart_answer, restarted}
-use Rattle.client.specs.Take.{goes_on, holds, on_fetched, works_on, answered, awaited, takes}
-use Rattle.client.specs.Reorganise.{seals, offers, all_sealed, seals_on, reorganises, edges_taken, on_sealed, starts, on_offered, not_started, on_started}
+use Rattle.client.specs.Client.{idle, job_of, append_of, reorganise_of, no_change}
+use Rattle.client.specs.Turn.{sends, otherwise}
+use Rattle.client.specs.Append.{writes_at, writes_on, not_at_head, not_later, not_written}
+use Rattle.client.specs.Fill.{page_carried, fills_on, not_filled}
+use Rattle.client.specs.Read.{page_taken}
+use Rattle.client.specs.Trim.{trims_on}
+use Rattle.client.specs.Begin.{begin_turn, restarted}
+use Rattle.client.specs.Take.{holds, works_on, awaited, takes}
+use Rattle.client.specs.Reorganise.{all_sealed, seals_on, reorganises, edges_taken, not_started}
 use Rattle.rule.specs.declared.Body.{Body}
 use Rattle.rule.specs.declared.Body.TheVariants.{Asks, Answers}
 use Rattle.rule.specs.declared.Letter.{Letter}

@@ -1,4 +1,6 @@
 // The rule of the yard: letters, and the steps that carry them between clients and machines. specs/ says what each step does; the code is in yard.
+#![tactic(auto)]
+
 ghost use Rattle.std.specs.Prelude.{◌≡◌};
 ghost use Rattle.rule.specs.World.{blank_letter};
 
@@ -7,7 +9,7 @@ use layout::Layout;
 use num::Request;
 
 // Nothing, a request, or an answer.
-#[derive(Drop)]
+#[derive(Clone, Copy)]
 pub enum Body {
     Blank,
     Asks(Ask),
@@ -15,7 +17,7 @@ pub enum Body {
 }
 
 // The stamp of a request, which its answer bears too; the page and the layout are blank where none is carried.
-#[derive(Drop)]
+#[derive(Clone, Copy)]
 pub struct Letter {
     pub stamp: Stamp,
     pub body: Body,
@@ -45,7 +47,7 @@ impl Letter {
 }
 
 // The held layout, the clients, which units have stopped, and how many letters lie in the bag.
-#[derive(Drop)]
+#[derive(Clone, Copy)]
 pub struct Yard {
     pub held: Layout,
     pub clients: [Client; Yard::CLIENTS],
@@ -71,7 +73,7 @@ impl Yard {
 
 // Clients and units are numbered from 1, letters from 0. A begin comes with its job. A delivery says whether the letter is kept,
 // and whether a machine's answer is.
-#[derive(Drop)]
+#[derive(Clone, Copy)]
 pub enum Step {
     Begin(u8),
     Deliver(u8, bool, bool),
@@ -83,7 +85,7 @@ pub enum Step {
 }
 
 // What a step answers; the client whose operation ended (0: none) and its outcome; the yard afterwards.
-#[derive(Drop)]
+#[derive(Clone, Copy)]
 pub struct Stepped {
     pub answer: u8,
     pub who: u8,
@@ -92,7 +94,7 @@ pub struct Stepped {
 }
 
 // What making a yard answers, and the yard.
-#[derive(Drop)]
+#[derive(Clone, Copy)]
 pub struct Made {
     pub answer: u8,
     pub yard: Yard,

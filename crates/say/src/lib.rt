@@ -1,23 +1,23 @@
 // Words and numbers on standard output, for the programs. What cannot be written is lost.
+#![tactic(auto)]
+
 ghost use Rattle.std.specs.Prelude.{◌≡◌};
 
-use libc::STDOUT_FILENO;
-
-pub fn text(words: &[u8])
+pub fn text(rt: &impl Print, words: &[u8])
     ensures { result ≡ tt }
 {
-    io::write_all(STDOUT_FILENO, words);
+    let _ = rt.write_all(words);
 }
 
 // A number, in decimal.
-pub fn number(n: u64)
+pub fn number(rt: &impl Print, n: u64)
     ensures { result ≡ tt }
 {
-    io::print_decimal(STDOUT_FILENO, n);
+    let _ = rt.print(n);
 }
 
-pub fn line()
+pub fn line(rt: &impl Print)
     ensures { result ≡ tt }
 {
-    text(b"\n");
+    text(rt, b"\n");
 }

@@ -1,11 +1,11 @@
 -- A step that is written is read back.
-use Prim.Native.Nat.{ℕ, suc, ◌+◌, ◌^◌, ◌<◌, ◌≤◌}
-use mathlib.Core.Bool.{Bool, true, false, ◌&&◌, ◌||◌, not, cond}
-use mathlib.Core.List.{List, [], ◌∷◌, ◌++◌, append_assoc}
-use mathlib.Core.Path.{◌≡◌, refl, sym, ap, ◌∙◌}
+use Prim.Native.Nat.{ℕ, suc, ◌+◌, ◌^◌, ◌<◌}
+use mathlib.Core.Bool.{Bool, true, false, ◌&&◌}
+use mathlib.Core.List.{List, ◌∷◌, ◌++◌, append_assoc}
+use mathlib.Core.Path.{◌≡◌, refl, ap, ◌∙◌}
 use native.Mathlib.Omega.{arith}
 use borrow.Author.Tests.{ltb-true, le-leb}
-use lib.Dec.{eqb, leb, ltb}
+use lib.Dec.{eqb, leb}
 use lib.ListN.{length, get_or, drop, length-append}
 use lib.Seq.{drop-append_seam}
 use Rattle.num.specs.Bytes.{le_bytes, number_at}
@@ -13,13 +13,13 @@ use Rattle.num.proofs.Tests.{and_both}
 use Rattle.num.proofs.Numbers.{number_behind, number_back}
 use Rattle.layout.specs.Lay.{sets_limit}
 use Rattle.layout.specs.Value.{padded}
-use Rattle.layout.specs.Codec.{counted, sets_bytes, set_front, sets_said, sets_at}
+use Rattle.layout.specs.Codec.{sets_bytes}
 use Rattle.layout.proofs.Padded.{padded_exact}
 use Rattle.layout.proofs.SetsAt.{sets_back}
 use Rattle.client.specs.Client.{drop_limit}
 use Rattle.script.specs.Cue.{Cue}
 use Rattle.script.specs.Cue.Cue.{append, read, fill, trim, prune, reorganise, deliver, drop_at, stop, restart, give_up, forget}
-use Rattle.script.specs.Steps.{flag, cue_bytes, past_drops, cue_for, cue_at, size_at, is_tag, good_flags, small_sets, has_room, stands, is_cue, got_of, got_at, is_byte, are_bytes, sets_are_bytes, is_position, holdable}
+use Rattle.script.specs.Steps.{flag, cue_bytes, cue_for, cue_at, size_at, is_tag, good_flags, small_sets, has_room, is_cue, got_of, got_at, is_byte, are_bytes, sets_are_bytes, is_position, holdable}
 
 -- ---- field by field
 

@@ -1,12 +1,11 @@
 -- Steps one behind the other: read and written back, written and read back, and the step numbered k.
-use Prim.Native.Nat.{ℕ, zero, suc, ◌+◌, ◌<◌, ◌≤◌}
-use mathlib.Core.Bool.{Bool, true, false, ◌&&◌}
+use Prim.Native.Nat.{ℕ, zero, suc, ◌<◌, ◌≤◌}
+use mathlib.Core.Bool.{true}
 use mathlib.Core.List.{List, [], ◌∷◌, ◌++◌}
-use mathlib.Core.Path.{◌≡◌, refl, sym, ap, ◌∙◌}
+use mathlib.Core.Path.{◌≡◌, refl, sym, ap}
 use native.Mathlib.Omega.{arith}
 use native.Mathlib.Nat.{le_of_suc-le-suc, not-suc-le-zero}
 use borrow.Author.Tests.{eqb-true}
-use lib.Dec.{eqb}
 use lib.ListN.{length, get_or, drop, length-append}
 use Rattle.num.proofs.Tests.{and_both}
 use Rattle.num.proofs.Numbers.{Bytes, bytes_drop}

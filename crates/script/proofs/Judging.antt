@@ -1,16 +1,15 @@
 -- What is judged of a whole play.
-use Prim.Native.Nat.{ℕ, suc, ◌+◌, ◌-◌, ◌<◌, ◌≤◌}
-use mathlib.Core.Bool.{Bool, true, false, ◌&&◌, ◌||◌, not, cond}
-use mathlib.Core.List.{List, [], ◌∷◌}
+use Prim.Native.Nat.{ℕ, ◌+◌, ◌-◌}
+use mathlib.Core.Bool.{Bool, true, false, ◌&&◌, ◌||◌}
+use mathlib.Core.List.{List}
 use mathlib.Core.Path.{◌≡◌, refl, sym, ap, ◌∙◌}
 use native.Mathlib.Omega.{arith}
-use borrow.Author.Tests.{le-leb, lt-leb, leb-true, ltb-true, ltb-false, eq-eqb}
+use borrow.Author.Tests.{le-leb, lt-leb, ltb-true, ltb-false}
 use lib.Dec.{eqb, leb, ltb}
-use lib.ListN.{length, get_or, take, drop}
+use lib.ListN.{length, take, drop}
 use Rattle.num.specs.Bytes.{number_at}
-use Rattle.num.proofs.Tests.{and_both, and_false, or_false}
+use Rattle.num.proofs.Tests.{and_false, or_false}
 use Rattle.layout.specs.declared.Layout.{Layout}
-use Rattle.layout.specs.Value.{good_value, blank}
 use Rattle.layout.specs.Codec.{is_layout, read_answer, read_layout, LayoutRead}
 use Rattle.layout.proofs.ReadLayout.{written_read}
 use Rattle.script.specs.declared.judge.Judged.{Judged}

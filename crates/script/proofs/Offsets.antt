@@ -6,12 +6,12 @@ use mathlib.Core.Path.{◌≡◌, refl, sym, ap, ◌∙◌}
 use native.Mathlib.Omega.{arith}
 use lib.ListN.{length, drop, length-drop}
 use lib.Seq.{drop-drop}
-use Rattle.script.specs.Steps.{size_at, is_cue, past, cue_no, got_of, got_at, are_cues}
-use Rattle.script.specs.Play.{layout_size, count_of, first_of, steps_of, offset, is_play}
+use Rattle.script.specs.Steps.{size_at, is_cue, past, cue_no, got_of, got_at}
+use Rattle.script.specs.Play.{count_of, first_of, steps_of, offset, is_play}
 use Rattle.script.proofs.Walking.{cue_within}
 use Rattle.script.proofs.Back.{got_whole}
 use Rattle.script.proofs.Cues.{past_next, cue_there, past_all}
-use Rattle.script.proofs.Plays.{Play, play_says}
+use Rattle.script.proofs.Plays.{play_says}
 
 -- at its offset stands what is behind the first k steps
 pub offset_drop : (k : ℕ) (b : List ℕ) → drop (offset k b) b ≡ past k (steps_of b)

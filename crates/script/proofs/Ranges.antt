@@ -1,11 +1,11 @@
 -- Steps of code have bytes that a play can hold, and what is put of them is read back.
-use Prim.Native.Nat.{ℕ, zero, suc, ◌+◌, ◌^◌, ◌<◌, ◌≤◌, min}
-use mathlib.Core.Bool.{Bool, true, false, ◌&&◌, cond}
+use Prim.Native.Nat.{ℕ, zero, suc, ◌+◌, ◌^◌, ◌<◌, ◌≤◌}
+use mathlib.Core.Bool.{Bool, true, false, ◌&&◌}
 use mathlib.Core.List.{List, [], ◌∷◌, ◌++◌, map, append_assoc}
-use mathlib.Core.Path.{◌≡◌, refl, sym, ap, ◌∙◌}
+use mathlib.Core.Path.{◌≡◌, refl, ap, ◌∙◌}
 use native.Mathlib.Omega.{arith}
 use borrow.Author.Tests.{leb-true, le-leb, lt-ltb}
-use lib.Dec.{leb, ltb}
+use lib.Dec.{leb}
 use lib.ListN.{length, get_or, take, drop, length-take, length-map}
 use lib.Seq.{sets, sets-eq, drop_at, length-take-le}
 use Rattle.num.proofs.Tests.{and_both}
@@ -24,7 +24,7 @@ use Rattle.client.specs.Job.{position_for}
 use Rattle.rule.specs.declared.Step.{Step}
 use Rattle.rule.specs.declared.Step.TheVariants.{Begin, Deliver, Drop, Stop, Restart, GiveUp, Forget}
 use Rattle.script.specs.Cue.{Cue, step_for, job_for}
-use Rattle.script.specs.Steps.{cue_bytes, small_sets, has_room, got_of, got_at, is_byte, are_bytes, sets_are_bytes, is_position, holdable}
+use Rattle.script.specs.Steps.{cue_bytes, small_sets, has_room, got_of, got_at, are_bytes, sets_are_bytes, holdable}
 use Rattle.script.specs.Put.{begun, cue_of, small_chains, change_fits, job_fits, step_fits, fits_at, StepPut}
 use Rattle.script.proofs.Back.{cue_back, cue_stands, got_whole}
 

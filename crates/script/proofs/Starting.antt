@@ -1,15 +1,15 @@
 -- The start of a play put into a lent buffer.
-use Prim.Native.Nat.{ℕ, suc, ◌+◌, ◌<◌, ◌≤◌}
+use Prim.Native.Nat.{ℕ, ◌+◌, ◌≤◌}
 use mathlib.Core.Bool.{Bool, true, false, ◌&&◌, ◌||◌, not, cond}
-use mathlib.Core.List.{List, [], ◌∷◌, ◌++◌}
+use mathlib.Core.List.{List, ◌++◌}
 use mathlib.Core.Path.{◌≡◌, refl, sym, ap, ◌∙◌}
 use native.Mathlib.Omega.{arith}
-use borrow.Author.Tests.{ltb-false, le-ltb, eq-eqb, eqb-true, not-true, not-false}
+use borrow.Author.Tests.{le-ltb, eq-eqb, eqb-true, not-true, not-false}
 use lib.Dec.{eqb, ltb}
-use lib.ListN.{length, take, replicate, length-append, length-replicate}
+use lib.ListN.{length, take, replicate, length-append}
 use lib.Seq.{sets, length-sets}
 use Rattle.num.specs.Bytes.{le_bytes, with_number}
-use Rattle.num.proofs.Tests.{and_both, and_false, or_false, cond_zero}
+use Rattle.num.proofs.Tests.{or_false, cond_zero}
 use Rattle.num.proofs.Numbers.{le_length, stored_within}
 use Rattle.num.proofs.Storing.{stored_both}
 use Rattle.layout.specs.declared.Layout.{Layout}

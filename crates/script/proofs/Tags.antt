@@ -1,20 +1,20 @@
 -- What code takes at the front of the bytes, tag by tag.
 use Prim.Native.Nat.{ℕ, zero, suc, ◌+◌, ◌-◌, ◌<◌, ◌≤◌}
 use mathlib.Core.Bool.{Bool, true, false, ◌&&◌, ◌||◌, not, cond}
-use mathlib.Core.List.{List, [], ◌∷◌, ◌++◌}
-use mathlib.Core.Path.{◌≡◌, refl, sym, ap, ◌∙◌}
+use mathlib.Core.List.{List, ◌∷◌}
+use mathlib.Core.Path.{◌≡◌, refl, sym, ◌∙◌}
 use native.Mathlib.Omega.{arith}
 use borrow.Author.Tests.{lt-leb, leb-true}
 use lib.Dec.{eqb, leb}
 use lib.ListN.{length, get_or, take, drop, drop_of_length-le, length-append, length-drop}
 use lib.Seq.{get_or-drop, take_all}
-use Rattle.num.specs.Bytes.{le_bytes, number_at}
+use Rattle.num.specs.Bytes.{number_at}
 use Rattle.num.proofs.Numbers.{le_length}
 use Rattle.num.proofs.Tests.{and_both, and_false, false_true}
 use Rattle.layout.specs.declared.Wish.{Wish}
-use Rattle.layout.specs.Lay.{set_limit, sets_limit}
+use Rattle.layout.specs.Lay.{sets_limit}
 use Rattle.layout.specs.Value.{padded}
-use Rattle.layout.specs.Codec.{counted, sets_bytes, set_front, sets_said, wish_said}
+use Rattle.layout.specs.Codec.{sets_bytes, set_front, sets_said, wish_said}
 use Rattle.layout.proofs.Padded.{length_padded}
 use Rattle.layout.proofs.SetsAt.{sets_length}
 use Rattle.client.specs.declared.Work.TheVariants.{Read, Fill, Trim, Prune}
@@ -23,11 +23,11 @@ use Rattle.client.specs.declared.state.Job.{Job}
 use Rattle.client.specs.Message.{page_limit}
 use Rattle.client.specs.Client.{drop_limit, job_of, append_of, reorganise_of}
 use Rattle.rule.specs.declared.Step.{Step}
-use Rattle.rule.specs.declared.Step.TheVariants.{Begin, Deliver, Drop, Stop, Restart, GiveUp, Forget}
+use Rattle.rule.specs.declared.Step.TheVariants.{Begin, Drop, Stop, Restart, GiveUp, Forget}
 use Rattle.script.specs.declared.step.Got.{Got}
-use Rattle.script.specs.Cue.{Cue, step_for, job_for, no_job, change_of}
-use Rattle.script.specs.Cue.Cue.{append, read, fill, trim, prune, reorganise, deliver, drop_at, stop, restart, give_up, forget}
-use Rattle.script.specs.Steps.{cue_bytes, past_drops, cue_for, cue_at, is_tag, good_flags, small_sets, has_room, stands, is_cue, nothing, got_of, whole, got_at}
+use Rattle.script.specs.Cue.{step_for, job_for, no_job, change_of}
+use Rattle.script.specs.Cue.Cue.{append, reorganise, deliver}
+use Rattle.script.specs.Steps.{cue_bytes, past_drops, cue_for, cue_at, is_tag, small_sets, has_room, is_cue, nothing, whole, got_at}
 
 -- ---- by the tag
 

@@ -1,10 +1,10 @@
 -- The loop over all steps of a play.
-use Prim.Native.Nat.{ℕ, zero, suc, ◌+◌, ◌-◌, ◌<◌, ◌≤◌}
-use mathlib.Core.Bool.{Bool, true, false, ◌&&◌, not, cond}
-use mathlib.Core.List.{List, [], ◌∷◌}
-use mathlib.Core.Path.{◌≡◌, refl, sym, ap, ◌∙◌}
+use Prim.Native.Nat.{ℕ, suc, ◌+◌, ◌-◌, ◌<◌, ◌≤◌}
+use mathlib.Core.Bool.{Bool, true, false, ◌&&◌, cond}
+use mathlib.Core.List.{List}
+use mathlib.Core.Path.{◌≡◌, refl, sym, ◌∙◌}
 use native.Mathlib.Omega.{arith}
-use native.Mathlib.Nat.{sub-zero, add-zero}
+use native.Mathlib.Nat.{sub-zero}
 use native.Mathlib.Numerals.{add-one}
 use borrow.Author.Tests.{leb-true, lt-ltb, ltb-true, ltb-false, eq-eqb, eqb-true}
 use lib.Dec.{eqb, leb, ltb}
@@ -14,7 +14,7 @@ use Rattle.num.proofs.Tests.{and_both, left_step}
 use Rattle.num.proofs.Bools.{same_test}
 use Rattle.script.specs.Cue.{Cue}
 use Rattle.script.specs.Cue.Cue.{append, read, fill, trim, prune, reorganise, deliver, drop_at, stop, restart, give_up, forget}
-use Rattle.script.specs.Steps.{cue_bytes, cue_at, size_at, is_tag, good_flags, stands, has_room, is_cue, nothing, got_at, are_cues}
+use Rattle.script.specs.Steps.{cue_bytes, cue_at, size_at, is_tag, good_flags, stands, has_room, is_cue, got_at, are_cues}
 
 -- no step is of no bytes
 pub cue_long : (c : Cue) → 1 ≤ length (cue_bytes c)

@@ -1,7 +1,6 @@
 -- A play's bytes put into a lent buffer, part by part.
 use Rattle.std.specs.Prelude.{ℕ, ◌+◌, Bool, true, ◌&&◌, cond, List, [], ◌∷◌, ◌≡◌, leb, length, take}
 use Rattle.std.proofs.lemmas.List.Edits.{sets}
-use Rattle.num.specs.declared.Position.{Position}
 use Rattle.layout.specs.declared.Chain.{Chain}
 use Rattle.layout.specs.declared.Layout.{Layout}
 use Rattle.layout.specs.Lay.{set_limit, sets_limit}

@@ -10,7 +10,7 @@ use num::answer::Answer;
 use num::bytes::number_at;
 
 // 0 with the layout, the number of steps and where the first starts; or 22, and nothing.
-#[derive(Drop)]
+#[derive(Clone, Copy)]
 pub struct Judged {
     pub answer: u8,
     pub layout: Layout,

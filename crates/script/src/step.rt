@@ -19,7 +19,7 @@ use num::bytes::{number_at, size};
 use rule::Step;
 
 // How many bytes the step has, and what the yard's step is handed for it; 0 and nothing where no whole step stands.
-#[derive(Drop)]
+#[derive(Clone, Copy)]
 pub struct Got {
     pub size: usize,
     pub step: Step,
@@ -82,7 +82,7 @@ fn seek_at(b: &[u8], work: Work) -> Got
 }
 
 // How far new sets reach, their count with them, and whether each has at most 4 units.
-#[derive(Drop)]
+#[derive(Clone, Copy)]
 struct Reached {
     size: usize,
     small: bool,

@@ -116,7 +116,7 @@ fn units_in(c: Chain) -> usize
 }
 
 // How many bytes new sets have, their count with them, and whether each has room for its units.
-#[derive(Drop)]
+#[derive(Clone, Copy)]
 struct Measured {
     size: usize,
     small: bool,

@@ -1,8 +1,5 @@
 -- Laws of the rules, for higher crates; then what the proofs of this crate share.
 pub mod Laws
 pub mod Promises
-pub mod Locals
 pub mod Plain
-pub mod Thin
-pub mod Lent
 pub mod Unique

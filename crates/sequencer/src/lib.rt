@@ -1,18 +1,20 @@
 // The sequencer: one small counter, epoch and next position, stepped where it stands.
+#![tactic(auto)]
+
 ghost use Rattle.std.specs.Prelude.{◌≡◌};
 ghost use Rattle.sequencer.specs.Rules.{fresh, number_of, Served};
 
 use num::answer::Answer;
 use num::{Epoch, Position, answer};
 
-#[derive(Drop)]
+#[derive(Clone, Copy)]
 pub struct Sequencer {
     pub epoch: Epoch,
     pub next: Position,
 }
 
 // What a sequencer is asked.
-#[derive(Drop)]
+#[derive(Clone, Copy)]
 pub enum Asked {
     Token(Epoch),
     Start(Epoch, Position),
@@ -20,14 +22,14 @@ pub enum Asked {
 }
 
 // What it answers: a token's position, or a number of docs/RULES.md, 10, and nothing else.
-#[derive(Drop)]
+#[derive(Clone, Copy)]
 pub enum Told {
     At(Position),
     Number(u8),
 }
 
 // An answer, and the sequencer afterwards.
-#[derive(Drop)]
+#[derive(Clone, Copy)]
 pub struct Step {
     pub told: Told,
     pub after: Sequencer,
@@ -125,7 +127,7 @@ pub fn stepped(s: Sequencer, asked: Asked) -> Step
     }
 }
 
-// Where the sequencer stands. This one and the two below it are thin over the ones by value, and proved by one walk.
+// Where the sequencer stands. This one and the two below it are thin over the ones by value.
 pub fn token(s: &mut Sequencer, epoch: Epoch) -> Told
     ensures { Served s.old (Asked.Token epoch) result s.new }
 {

@@ -1,4 +1,6 @@
 // The unit for a station's own C program: numbers and byte slices. A slice is a pointer and then a length.
+#![tactic(auto)]
+
 ghost use Rattle.unit.specs.State.{content};
 ghost use Rattle.unit.specs.Unit.{Request};
 ghost use Rattle.unit.specs.Promises.{IsFresh, IsAnswered};

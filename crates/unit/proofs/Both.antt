@@ -6,7 +6,6 @@ use Rattle.unit.specs.Shape.{Shape, small, large, shape_of, unit_limit}
 use Rattle.unit.specs.State.{State}
 use Rattle.unit.specs.Unit.{Request, Report, fresh_unit, says, after, report, in_time}
 use Rattle.unit.specs.Unit.Request.{read}
-use Rattle.unit.specs.Memory.{good}
 use Rattle.unit.specs.Rules.{answer, memory, reported, start}
 use Rattle.unit.specs.Promises.{IsFresh, IsAnswered}
 use Rattle.unit.specs.Holding.{Holds, Located, Obeys}

@@ -1,5 +1,5 @@
 -- Laws of good memory: a slot's goodness at an offset, and one turn of the loop over the slots.
-use Rattle.std.proofs.Common.{◌≡◌, ℕ, zero, suc, ◌+◌, ◌-◌, ◌*◌, ◌/◌, ◌%◌, ◌<◌, ◌≤◌, Bool, true, false, ◌&&◌, ◌||◌, eqb, ltb, leb, List, length, get_or, drop, sym, refl, ap, ◌∙◌, add_assoc, mul-le-mul_right, arith, length-drop, get_or-drop, drop-drop, ltb-true, eq-eqb, ne_eqb, eqb-true, le-leb, leb-false, leb-true}
+use Rattle.std.proofs.Common.{◌≡◌, ℕ, zero, suc, ◌+◌, ◌-◌, ◌*◌, ◌/◌, ◌%◌, ◌<◌, ◌≤◌, Bool, true, false, ◌&&◌, ◌||◌, eqb, ltb, leb, List, length, get_or, drop, sym, refl, ap, ◌∙◌, add_assoc, mul-le-mul_right, arith, get_or-drop, drop-drop, ltb-true, eq-eqb, ne_eqb, eqb-true, le-leb, leb-false, leb-true}
 use borrow.Author.Tests.{lt-leb}
 use lib.Dec.{eqb-suc-zero}
 use Rattle.num.specs.Bytes.{le}

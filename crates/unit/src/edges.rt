@@ -16,7 +16,7 @@ use num::largest::larger;
 use num::{Edges, Position};
 
 // What an edge request answers: the number, and both edges; none where the memory is not good.
-#[derive(Drop)]
+#[derive(Clone, Copy)]
 pub struct Measured {
     pub answer: u8,
     pub edges: Edges,

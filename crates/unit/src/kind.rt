@@ -2,7 +2,7 @@
 ghost use Rattle.std.specs.Prelude.{◌≡◌};
 ghost use Rattle.unit.specs.Kinds.{is_page, has_bytes, is_gone, was_written};
 
-#[derive(Drop)]
+#[derive(Clone, Copy)]
 pub struct Kind;
 
 impl Kind {

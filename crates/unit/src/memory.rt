@@ -13,7 +13,7 @@ use crate::store::put_zeros;
 use crate::word::{pair_at, word_at};
 use num::Position;
 
-#[derive(Drop)]
+#[derive(Clone, Copy)]
 pub struct Unit;
 
 impl Unit {

@@ -1,5 +1,5 @@
 // Where each field of a unit's memory stands and how many bytes it has, by name: the header's fields, and a slot's from its start on.
-#[derive(Drop)]
+#[derive(Clone, Copy)]
 pub struct Header;
 
 impl Header {
@@ -22,7 +22,7 @@ impl Header {
     pub const SIZE: usize = 24;
 }
 
-#[derive(Drop)]
+#[derive(Clone, Copy)]
 pub struct Slot;
 
 impl Slot {

@@ -4,7 +4,7 @@ ghost use Rattle.unit.specs.Shape.{shape_for, shape_of};
 
 use crate::offset::Header;
 
-#[derive(Drop)]
+#[derive(Clone, Copy)]
 pub struct Shape {
     // The byte that names it.
     pub code: u8,

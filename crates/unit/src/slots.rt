@@ -42,7 +42,7 @@ pub(crate) fn place(mem: &[u8], cap: usize, count: u64, p: u64) -> u64
 }
 
 // Where the slot of a position stands, or would stand, and its kind: 0 where there is none.
-#[derive(Drop)]
+#[derive(Clone, Copy)]
 pub(crate) struct Found {
     pub at: usize,
     pub kind: u8,

@@ -131,9 +131,9 @@ unfolding world_by ◌▸▸◌
 calls_come ran at (ends {m = m} fine) (then {r = r} k no_more) =
     let t = subst (λ (z : World). Tells r (result z m)) at (call_tells ran k) in
     record { ended = at_last (t.answer_is ∙ fine) t; all = _; ran = went ran k; world_is = ap (λ (z : World). (result z m).world) at }
-calls_come ran at (goes {m = m} fine nobody on) (then {r = r} k more) =
+calls_come {ms = ms} ran at (goes {m = m} fine nobody on) (then {r = r} k more) =
     let t = subst (λ (z : World). Tells r (result z m)) at (call_tells ran k) in
-    let rest = calls_come (went ran k) (ap (λ (z : World). (result z m).world) at) on more in
+    let rest = calls_come {ms = ms ▸ m} (went ran k) (ap (λ (z : World). (result z m).world) at) on more in
     record { ended = later (t.answer_is ∙ fine) (t.who_is ∙ nobody) rest.ended; all = rest.all; ran = rest.ran; world_is = rest.world_is }
 
 comes : {l : Layout} {ms : Moves} {so : List Stepped} {w : World} {b : Lent} {moves : List Move} {d : Done} → Ran l ms so b → world l ms ≡ w → Goes step w moves d → Comes b moves d

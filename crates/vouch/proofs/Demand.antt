@@ -152,7 +152,7 @@ module _ (l : Layout) (good : good_value l ≡ true) (first : l.epoch.0 ≡ 1) w
       (safe (runs ms)).reads_agree (part_trans r₁.past (come_part l good first part₁)) (part_trans r₂.past (come_part l good first part₂)) r₁.read r₂.read
 
   -- an append asks for bytes
-  of_append : {ms : Moves} {p : Pos} {X : Page} (j : Job) → Wants j (append X) → Asked l ms (append X) → PageAsked l ms p X
+  of_append : {ms : Moves} {p : Pos} (j : Job) {X : Page} → Wants j (append X) → Asked l ms (append X) → PageAsked l ms p X
   of_append j (wants_append is) asked = by_append asked
 
   asked_for : {ms : Moves} {p : Pos} {X : Page} → MarkNoted (at ms) p (page X) → PageAsked l ms p X
@@ -224,7 +224,7 @@ module _ (l : Layout) (good : good_value l ≡ true) (first : l.epoch.0 ≡ 1) w
         w : World
         w = world l ms
 
-        no_return : {a : Answer} {o : Outcome} {n : ℕ} {A : Type 0} → Returns o a → o.number ≡ n → ¬ (n ≡ 0) → ¬ (n ≡ 5) → ¬ (n ≡ 7) → A
+        no_return : {o : Outcome} {a : Answer} {n : ℕ} {A : Type 0} → Returns o a → o.number ≡ n → ¬ (n ≡ 0) → ¬ (n ≡ 5) → ¬ (n ≡ 7) → A
         no_return (returns_page e) is n0 n5 n7 = absurd (n0 (sym is ∙ e))
         no_return (returns_trimmed e) is n0 n5 n7 = absurd (n5 (sym is ∙ e))
         no_return (returns_unwritten e) is n0 n5 n7 = absurd (n7 (sym is ∙ e))

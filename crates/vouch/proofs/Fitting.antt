@@ -36,7 +36,7 @@ module _ (l : Layout) where
       let fits : m.job.len ≤ cap = begin_short w c m.job (ap (λ (k : Job). k.work) b.job_is ∙ is) (begin_number_lem w c m.job fine) in
       subst (λ (code : ℕ). j.len ≤ (shape_for code).cap) (shape_kept l ms) (subst (λ (k : Job). k.len ≤ cap) b.job_is fits)
 
-  under_fit : {ms : Moves} {c : ℕ} {j : Job} → UnderWay step l c j ms → j.work ≡ Append → j.len ≤ (shape_under l).cap
+  under_fit : {c : ℕ} {j : Job} {ms : Moves} → UnderWay step l c j ms → j.work ≡ Append → j.len ≤ (shape_under l).cap
   under_fit (begun b not_ended) is = begins_fit b is
   under_fit (still way leaves) is = under_fit way is
 

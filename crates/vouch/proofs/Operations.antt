@@ -97,7 +97,7 @@ module _ (l : Layout) (good : good_value l ≡ true) (first : l.epoch.0 ≡ 1) w
   begins_so {ms} {m} {c} b =
       began (world l ms) c m.job (come l good first ms).good.clients_long (subst (λ (s : Step). (step (world l ms) s m.job).answer ≡ 0) b.does_begin b.not_refused)
 
-  pub under_agrees : {ms : Moves} {c : ℕ} {j : Job} → UnderWay step l c j ms → EndsBy (world l ms) c j
+  pub under_agrees : {c : ℕ} {j : Job} {ms : Moves} → UnderWay step l c j ms → EndsBy (world l ms) c j
   unfolding world_by
   under_agrees {c = c} {j} (begun {ms = ms} {m} b not_ended) =
       let now = begins_so b in

@@ -23,7 +23,7 @@ use Rattle.client.specs.declared.Stamp.{Stamp}
 use Rattle.client.specs.declared.Work.{Work}
 use Rattle.client.specs.declared.Work.TheVariants as work
 use Rattle.client.specs.declared.Stage.{Stage}
-use Rattle.client.specs.declared.Stage.TheVariants.{Fetching, Working}
+use Rattle.client.specs.declared.Stage.TheVariants.{Idle, Fetching, Working}
 use Rattle.client.specs.declared.Phase.TheVariants.{Drawing, Writing, Reading, Filling, Looking, Trimming, Pruning, Sealing, Offering, Starting}
 use Rattle.client.specs.declared.Client.{Client}
 use Rattle.client.specs.declared.state.Job.{Job}
@@ -87,6 +87,7 @@ module _ (c : Client) (p : Position) (is : c.work ≡ work.Read p) where
 
   pub told : {h : History} {a : Ask} {g : Page} {k : Layout} {x : Response} (st : Stage) → StageOk h c st → Waits c.layout c.position c.page c.plan st a g k →
       Means h a g k x → (answered st c x).act ≡ Ends → ReadTold c a x (answered st c x)
+  told Idle ok waits means done = elim waits [ ]
   told Fetching ok waits_fetch (means_held {l = l} laid good) done = told_spent refl (fetch_spent l good done)
   told {x = x} (Working (Reading u)) ok waits_read means done = told_answer u refl ok.is_read ok.low (works_good c (Reading u) x.reply x.page ok.fetched.is_good_lem)
   told (Working (Drawing n)) ok waits_token means done = clash ok.for_append (λ e. let z : ◌≡◌ {A = ℕ} 0 1 = cc in omega arith)

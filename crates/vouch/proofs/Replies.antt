@@ -25,7 +25,7 @@ use Rattle.vouch.proofs.Walks.{tail_last}
 use Rattle.client.specs.declared.Ask.{Ask}
 use Rattle.client.specs.declared.Response.{Response}
 use Rattle.client.specs.declared.Stage.{Stage}
-use Rattle.client.specs.declared.Stage.TheVariants.{Fetching, Working}
+use Rattle.client.specs.declared.Stage.TheVariants.{Idle, Fetching, Working}
 use Rattle.client.specs.Client.{holding}
 use Rattle.client.specs.Take.{goes_on, on_fetched, worked, answered}
 use Rattle.client.proofs.Turns.{held_cases, working_cases}
@@ -103,6 +103,7 @@ worked_ok {r = r} run c Starting ok waits_start means_start = started run c r.re
 
 pub reply_ok : {h : History} {a : Ask} {g : PageValue} {k : Layout} {r : Response} → Run h → (c : Client) (st : Stage) → StageOk h c st →
     Waits c.layout c.position c.page c.plan st a g k → Means h a g k r → TurnOk h c (answered st c r)
+reply_ok run c Idle ok waits means = elim waits [ ]
 reply_ok run c Fetching ok waits_fetch (means_held {l = l} laid good) = fetched_ok run c l ok (record { laid = laid; is_good_lem = good })
 reply_ok {h} {r = r} run c (Working p) ok waits means =
     working_cases (TurnOk h c) c p r.reply r.page (λ good. worked_ok run c p ok waits means) (λ bad. absurd (false_true (sym bad ∙ phase_good h c p ok)))

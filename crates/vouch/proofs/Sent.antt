@@ -194,7 +194,7 @@ module _ (l : Layout) (good : good_value l ≡ true) (first : l.epoch.0 ≡ 1) w
         stands = λ append. (ap one put, ap one well);
       })
 
-  tally_of : {ms : Moves} {c : ℕ} {j : Job} (way : UnderWay step l c j ms) → Tally (client_at (world l ms) c) j (counted step l (puts step l c) way) (counted step l (fails step l c) way)
+  tally_of : {c : ℕ} {j : Job} {ms : Moves} (way : UnderWay step l c j ms) → Tally (client_at (world l ms) c) j (counted step l (puts step l c) way) (counted step l (fails step l c) way)
   unfolding world_by counted
   tally_of (begun b not_ended) = begin_tally b
   tally_of {c = c} {j} (still {ms = ms} {m} way leaves) =

@@ -219,7 +219,7 @@ module _ (l : Layout) (good : good_value l ≡ true) (first : l.epoch.0 ≡ 1) w
   job_page_lem : {ms : Moves} {j : Job} → Asked step l ms j → j.work ≡ Append → IsPage cap (job_page j)
   job_page_lem {j = j} a is = is_data j.len j.bytes (begins_fit l a.begins is)
 
-  append_of_lem : {ms : Moves} {p : ℕ} {bs : List ℕ} {X : Page} (j : Job) → fields.Wants j (append (bytes bs)) → Asked step l ms j → IsPage cap X → carried X ≡ bytes bs → PageAsked step l ms p X
+  append_of_lem : {ms : Moves} {p : ℕ} (j : Job) {bs : List ℕ} {X : Page} → fields.Wants j (append (bytes bs)) → Asked step l ms j → IsPage cap X → carried X ≡ bytes bs → PageAsked step l ms p X
   append_of_lem j (wants_append is) a good_page same = by_append a is (page_same fits (job_page_lem a is) good_page (data_carried j.len j.bytes ∙ sym same))
 
   fill_of : {ms : Moves} {p : ℕ} {X : Page} (j : Job) → fields.Wants j (fill_at p) → Asked step l ms j → IsPage cap X → carried X ≡ junk → PageAsked step l ms p X

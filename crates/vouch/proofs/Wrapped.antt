@@ -46,7 +46,7 @@ module _ (g : Outcome → Outcome) where
     pub begins_so : {ms : Moves} {m : Move} {c : ℕ} {j : Job} → Begins step l ms m c j → Begins reporting l ms m c j
     begins_so {ms} {m} b = record { does_begin = b.does_begin; job_is = b.job_is; not_refused = answer_is ms m ∙ b.not_refused }
 
-    under_so : {ms : Moves} {c : ℕ} {j : Job} → UnderWay step l c j ms → UnderWay reporting l c j ms
+    under_so : {c : ℕ} {j : Job} {ms : Moves} → UnderWay step l c j ms → UnderWay reporting l c j ms
     under_so (begun {ms = ms} {m} b not_ended) = begun (begins_so b) (λ e. not_ended (sym (who_is ms m) ∙ e))
     under_so (still {ms = ms} {m} way leaves) =
         still (under_so way) (record { not_ended = λ e. leaves.not_ended (sym (who_is ms m) ∙ e); not_restarted = λ is e. leaves.not_restarted is (sym (answer_is ms m) ∙ e) })
@@ -148,7 +148,7 @@ asked_among {f} {l} {j = j} test a yes_test = go a.within
     go (part_of {ms₂ = ms₂} {m} part) = second (is_begin m.does && test m.job) (some_begin test ms₂) (go part)
 
 -- an operation under way was asked for
-pub under_asked : {f : Stepping} {l : Layout} {ms : Moves} {c : ℕ} {j : Job} → UnderWay f l c j ms → Asked f l ms j
+pub under_asked : {f : Stepping} {l : Layout} {c : ℕ} {j : Job} {ms : Moves} → UnderWay f l c j ms → Asked f l ms j
 under_asked {c = c} (begun {ms = ms} {m} b not_ended) = record { before = ms; move = m; within = all_of; client = c; begins = b }
 under_asked (still way leaves) = let a = under_asked way in record { before = a.before; move = a.move; within = part_of a.within; client = a.client; begins = a.begins }
 

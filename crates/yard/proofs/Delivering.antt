@@ -8,6 +8,7 @@ use native.Mathlib.Omega.{arith}
 use borrow.Author.Tests.{ltb-true, ltb-false}
 use lib.Dec.{ltb}
 use lib.ListN.{length, get_or, length-append}
+use Rattle.std.proofs.lemmas.List.{get_or_past}
 use Rattle.num.proofs.Tests.{false_true}
 use Rattle.unit.specs.declared.shape.Shape.{Shape}
 use Rattle.unit.specs.State.{State}
@@ -30,7 +31,6 @@ use Rattle.rule.specs.Lent.{units_in, units_bytes}
 use Rattle.rule.proofs.Serving.{serve_clients, serve_stopped, serve_letters}
 use Rattle.yard.specs.InsideParts.{world_of, IsServed}
 use Rattle.yard.specs.InsideMoves.{world_with, posting, count_after, Moved, Decided, refusing, sends, letter_of, turning, answering}
-use Rattle.yard.proofs.Letters.{get_d_out}
 use Rattle.yard.proofs.Stepping.{moved_quiet, sent_is, turned_is}
 
 -- ---- how many letters there are
@@ -134,7 +134,7 @@ blank_at ls n i e z q = go (ltb i n) refl
   where
     go : (b : Bool) → ltb i n ≡ b → (get_or ls i blank_letter).body ≡ Blank
     go true t = ap (λ (x : Letter). x.body) (z (ltb-true i n t)) ∙ q (ltb-true i n t)
-    go false t = ap (λ (x : Letter). x.body) (get_d_out ls i blank_letter (rw e (ltb-false i n t)))
+    go false t = ap (λ (x : Letter). x.body) (get_or_past ls i blank_letter (rw e (ltb-false i n t)))
 
 -- there is no such letter, or it is blank
 pub delivers_nobody : {sh : Shape} (y : Yard) (s : Sequencer) (us : List State) {after : List ℕ} (i : ℕ) (keep k : Bool) (l : Letter) → after ≡ units_bytes sh us → (i < y.count → l.body ≡ Blank)

@@ -1,15 +1,10 @@
 -- What the walks over the table share.
 pub mod Drops
-pub mod Letters
-pub mod Loans
-pub mod Tables
 pub mod Doing
 pub mod Memories
 pub mod Places
 pub mod Serving
 pub mod Blanks
-pub mod Rows
-pub mod LocalTypes
 pub mod Counting
 pub mod Stepping
 pub mod Delivering

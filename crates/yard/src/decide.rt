@@ -22,7 +22,7 @@ use sequencer::Sequencer;
 
 // What a step gives back; and what it does to the table: of the first `count` letters the one at `gone` is dropped, and `letter` is put
 // at `place`. A place past the end changes nothing.
-#[derive(Drop)]
+#[derive(Clone, Copy)]
 pub(crate) struct Settled {
     pub stepped: Stepped,
     pub sequencer: Sequencer,

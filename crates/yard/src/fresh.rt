@@ -16,7 +16,7 @@ use sequencer::Sequencer;
 use unit::memory::Unit;
 
 // Besides, the sequencer afterwards, and how many places of the table become blank.
-#[derive(Drop)]
+#[derive(Clone, Copy)]
 pub(crate) struct Prepared {
     pub made: Made,
     pub sequencer: Sequencer,

@@ -1,4 +1,6 @@
 // The yard: a bag of letters between clients and machines, and the steps that carry them.
+#![tactic(auto)]
+
 pub mod bag;
 mod decide;
 mod deliver;

@@ -16,7 +16,7 @@ use rule::Yard;
 use sequencer::{Asked, Sequencer, Told, stepped};
 
 // An answer, and the holder's layout and the sequencer afterwards.
-#[derive(Drop)]
+#[derive(Clone, Copy)]
 pub(crate) struct Service {
     pub response: Response,
     pub held: Layout,

@@ -14,7 +14,7 @@ use sequencer::Sequencer;
 
 // What is answered, whose operation ended and how; the yard, its count as it was, and the sequencer afterwards;
 // whether the letter at hand stays, and whether `letter` goes to the end.
-#[derive(Drop)]
+#[derive(Clone, Copy)]
 pub(crate) struct Moves {
     pub answer: u8,
     pub who: u8,

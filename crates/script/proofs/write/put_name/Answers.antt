@@ -1,0 +1,17 @@
+use Prim.Native.Nat.{◌+◌}
+use mathlib.Core.Bool.{true}
+use mathlib.Core.Path.{◌≡◌, refl, sym, ◌∙◌}
+use lib.Dec.{leb}
+use lib.ListN.{length}
+use mathlib.Core.List.{[]}
+use Rattle.script.proofs.Putting.{put_short, put_whole, pair_put}
+use Rattle.script.proofs.write.put_name.Goals as goal
+
+pub returns-then-not-has_room : goal.returns-then-not-has_room
+returns-then-not-has_room c = put_short true _ _ _ 2 refl (sym c.has_room.ensures ∙ c.if-not-has_room.true)
+
+pub returns : goal.returns
+returns c =
+    let room : leb (c.args.at + 2) (length c.args.out.now) ≡ true =
+    sym c.has_room.ensures ∙ c.if-not-has_room.false in
+    put_whole true _ _ _ 2 _ refl refl room (pair_put c.args.out.now c.args.at c.args.tag c.args.who [] _ refl)

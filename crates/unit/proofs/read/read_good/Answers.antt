@@ -1,0 +1,15 @@
+use Rattle.std.proofs.Common.{arith}
+use Rattle.unit.specs.Memory.{decode}
+use Rattle.unit.specs.Unit.{says}
+use Rattle.unit.proofs.Goodness.{is_good_lem}
+use Rattle.unit.proofs.read.read_good.Goals as goal
+
+pub number_at-sealed-requires : goal.number_at-sealed-requires
+number_at-sealed-requires c = omega (arith, is_good_lem _ _ c.requires.mem_value)
+
+pub number_at-floor-requires : goal.number_at-floor-requires
+number_at-floor-requires c = omega (arith, is_good_lem _ _ c.requires.mem_value)
+
+pub returns : goal.returns
+unfolding decode says
+returns c = rw (c.pick.ensures, c.pick-stale.ensures, c.pick-trimmed.ensures, c.pick-unwritten.ensures, c.is_gone-gone.ensures, c.number_at-sealed.ensures, c.number_at-floor.ensures, c.requires.held_value)
