@@ -3,13 +3,12 @@
  *
  * To link, in the repository's folder:
  *
- *   x86-64:  rt staticlib desk
- *            gcc -Iinclude -o test test.c -Ltarget/staticlib -ldesk
- *   Arm:     tools/native-archive desk
- *            gcc -Iinclude -o test test.c -Ltarget/native -ldesk
- *   either:  tools/c-program --out test test.c desk
+ *   (cd crates/desk && rt lib)
+ *   gcc -Iinclude -o test test.c -Lcrates/desk/out -ldesk
  *
- * (rt writes x86-64 code on every machine, which an Arm linker passes over.) Nothing is kept between calls. Every call answers
+ * or both at once: tools/c-program --out test test.c desk
+ *
+ * Nothing is kept between calls. Every call answers
  * one number of enum desk_answer. A call that answers anything but DESK_ANSWER_FINE has changed nothing: no byte of out, and
  * *set, *lines and *written keep what they held.
  *

@@ -3,14 +3,13 @@
  *
  * To link, in the repository's folder:
  *
- *   x86-64:  rt staticlib station
- *            gcc -Iinclude -o box box.c -Ltarget/staticlib -lstation
- *   Arm:     tools/native-archive station
- *            gcc -Iinclude -o box box.c -Ltarget/native -lstation
- *   either:  tools/c-program --out box box.c station
+ *   (cd crates/station && rt lib)
+ *   gcc -Iinclude -o box box.c -Lcrates/station/out -lstation
  *
- * rt writes x86-64 code on every machine; an Arm linker passes it over ("skipping incompatible"), so tools/native-archive
- * compiles the same proved module for Arm.
+ * or both at once: tools/c-program --out box box.c station
+ *
+ * rt runs on x86-64 and writes its code. For a box on Arm, tools/native-archive station aarch64 compiles the same proved
+ * module once more, as target/aarch64/libstation.a.
  *
  * The unit keeps nothing of its own: all that it knows lies in the STATION_MEMORY bytes that each call is lent. Keep those
  * bytes in a file or in flash, and make each change durable as a whole or not at all (write a second file, then rename it:

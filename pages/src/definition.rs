@@ -15,9 +15,9 @@ fn begins(line: &str) -> Option<&str> {
     let text = line.trim_start();
     let text = text.strip_prefix("unfoldable ").or_else(|| text.strip_prefix("abbrev ")).unwrap_or(text);
     let rest = text.strip_prefix("pub ")?;
-    let rest = rest.strip_prefix("record ").unwrap_or(rest);
+    let rest = rest.strip_prefix("record ").or_else(|| rest.strip_prefix("data ")).unwrap_or(rest);
     // a field of a record is no definition
-    if line.starts_with("  ") && !text.contains("-once") && !line.contains("→") {
+    if line.starts_with("  ") && !text.contains("_once") && !line.contains("→") {
         return None;
     }
     rest.split([' ', ':']).next().filter(|name| !name.is_empty() && *name != "use")

@@ -58,13 +58,19 @@ fn braced(text: &str) -> (&str, &str) {
     panic!("a brace that is not closed: {text}");
 }
 
+/// The word of the clause whose `{` a text ends before, if it is one: `ensures`, also with a name behind it.
+fn clause_word(head: &str) -> Option<&str> {
+    let line = head.trim_end().rsplit('\n').next().unwrap_or("").trim_start();
+    let word = line.split(' ').next().unwrap_or("").trim_end_matches('*');
+    ["requires", "ensures"].contains(&word).then_some(word)
+}
+
 /// The clauses between a function's name and its body, each with its word, and the rest.
 fn clauses(mut text: &str) -> (Vec<(&str, &str)>, &str) {
     let mut found = Vec::new();
-    let words = ["requires", "ensures", "decreases"];
     loop {
         let body = text.find('{').expect("a function has a body");
-        let Some(word) = words.into_iter().find(|w| text[..body].trim_end().ends_with(w)) else {
+        let Some(word) = clause_word(&text[..body]) else {
             return (found, &text[body..]);
         };
         let (inside, rest) = braced(&text[body..]);
@@ -73,30 +79,37 @@ fn clauses(mut text: &str) -> (Vec<(&str, &str)>, &str) {
     }
 }
 
-/// An `ensures` as the page writes it: `x` for a lent `now (x .entry)`, `x′` for `now (x .exit)`, and `p` for the number `(p .0)` of a counted one.
+/// An `ensures` as the page writes it: `x` for what is lent, `x.now` or `x.old`, `x′` for `x.new`, and `p` for the number `p.0` of a counted one.
 pub fn as_written(clause: &str) -> String {
-    let fact = clause.split_once('⌜').map_or(clause, |c| c.1);
-    let mut text = fact.rsplit_once('⌝').map_or(fact, |c| c.0).split_whitespace().collect::<Vec<_>>().join(" ");
-    for (end, mark) in [(" .entry)", ""), (" .exit)", "′")] {
-        while let Some(i) = text.find(end) {
-            let start = text[..i].rfind("now (").expect("a lent thing is read by `now`");
-            let name = text[start + "now (".len()..i].to_string();
-            text.replace_range(start..i + end.len(), &format!("{name}{mark}"));
+    let text = clause.split_whitespace().collect::<Vec<_>>().join(" ");
+    let in_word = |c: char| c.is_alphanumeric() || c == '_' || c == '\'';
+    let mut parts = text.split('.');
+    let mut written = parts.next().unwrap_or("").to_string();
+    for part in parts {
+        let (field, rest) = part.split_at(part.find(|c: char| !in_word(c)).unwrap_or(part.len()));
+        match field {
+            "now" | "old" | "0" => written.push_str(rest),
+            "new" => written.extend(["′", rest]),
+            _ => written.extend([".", part]),
         }
     }
-    while let Some(i) = text.find(" .0)") {
-        let start = text[..i].rfind('(').expect("a number is read in brackets");
-        let name = text[start + 1..i].to_string();
-        text.replace_range(start..i + " .0)".len(), &name);
-    }
-    text
+    written
 }
 
 /// The path of the type of an `impl`: at the root of its crate where the file imports it from there, else in the file's module.
-fn path_of(owner: &str, text: &str, module: &str) -> String {
-    let imported = format!("use crate::{owner};");
-    let home = if text.lines().any(|l| l == imported) { module.split("::").next().unwrap() } else { module };
+fn path_of(owner: &str, imports: &BTreeMap<String, String>, module: &str) -> String {
+    let root = module.split("::").next().unwrap();
+    let at_root = format!("{root}::{owner}");
+    let home = if imports.get(owner) == Some(&at_root) { root } else { module };
     format!("{home}::{owner}")
+}
+
+/// The paths of a `use`: each of a list by itself.
+fn spread(path: &str) -> Vec<String> {
+    match path.split_once("::{") {
+        Some((home, list)) => list.trim_end_matches('}').split(", ").map(|name| format!("{home}::{name}")).collect(),
+        None => vec![path.into()],
+    }
 }
 
 /// What a file's `use` lines bring in, by the name that it has there.
@@ -104,8 +117,10 @@ fn imports(text: &str, of: &str) -> BTreeMap<String, String> {
     let mut all = BTreeMap::new();
     for line in text.lines() {
         if let Some(path) = line.strip_prefix("use ").and_then(|rest| rest.strip_suffix(';')) {
-            let whole = path.replace("crate::", &format!("{of}::"));
-            all.insert(whole.rsplit("::").next().unwrap().to_string(), whole);
+            for path in spread(path) {
+                let whole = path.replace("crate::", &format!("{of}::"));
+                all.insert(whole.rsplit("::").next().unwrap().to_string(), whole);
+            }
         } else if let Some((_, list)) = line.strip_prefix("ghost use ").and_then(|rest| rest.split_once(".{")) {
             for part in list.trim_end_matches("};").split(", ") {
                 if let Some((name, here)) = part.split_once(" as ") {
@@ -134,7 +149,7 @@ pub fn functions(text: &str, module: &str, file: &str) -> Vec<Function> {
     let mut at = 0;
     for (i, line) in text.split_inclusive('\n').enumerate() {
         if let Some(rest) = line.strip_prefix("impl ") {
-            owner = Some(path_of(rest.trim_end().trim_end_matches('{').trim(), text, module));
+            owner = Some(path_of(rest.trim_end().trim_end_matches('{').trim(), &imports, module));
         } else if line.trim_end() == "}" {
             owner = None;
         }

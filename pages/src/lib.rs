@@ -51,15 +51,24 @@ pub fn crates() -> Vec<Crate> {
     let text = read(&root().join("crates.txt"));
     let lines = text.lines().filter(|line| !line.starts_with('#')).filter_map(|line| line.split_once(':'));
     let named = |(name, rests): (&str, &str)| Crate {
-        name: name.trim().into(),
+        // a static library has a word behind its name
+        name: name.trim().trim_end_matches(" staticlib").into(),
         rests: rests.split_whitespace().map(String::from).collect(),
     };
     lines.map(named).collect()
 }
 
-/// The words of a text: names with their primes and hyphens, and fields with their dot.
+/// The words of a text: names with their primes, and fields with their dot. What begins with a capital is a path, and one word.
 pub fn words(text: &str) -> Vec<&str> {
-    let in_word = |c: char| c.is_alphanumeric() || matches!(c, '_' | '-' | '′' | '?' | '.');
-    let split = text.split(|c: char| !in_word(c));
-    split.map(|word| word.trim_end_matches('.')).filter(|word| !word.is_empty()).collect()
+    let in_word = |c: char| c.is_alphanumeric() || matches!(c, '_' | '\'' | '′' | '.');
+    let mut all = Vec::new();
+    for mut word in text.split(|c: char| !in_word(c)).map(|word| word.trim_end_matches('.')) {
+        while let Some(at) = word.rfind('.').filter(|at| *at > 0 && !word.starts_with(char::is_uppercase)) {
+            all.push(&word[at..]);
+            word = &word[..at];
+        }
+        all.push(word);
+    }
+    all.retain(|word| !word.is_empty());
+    all
 }

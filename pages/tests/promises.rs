@@ -86,21 +86,21 @@ fn every_edit_still_applies() {
 
 #[test]
 fn the_reader_of_sources_sees_what_it_should() {
-    let text = "use crate::B;\nuse crate::m::help;\nghost use Rattle·c.specs.Two.{good as isTwo};\n\nimpl B {\n    pub fn none() {\n    }\n}\n\n\
-        impl A {\n    pub fn one(self) -> u8\n        ensures { λ r. ⌜ r ≡ 1 ⌝ }\n    {\n        help(1)\n    }\n}\n\n\
-        pub fn two(x: u8)\n    ensures {\n        λ _. ⌜ IsTwo {n = 2}\n          x ⌝\n    }\n    requires { ⌜ x ≡ 0 ⌝ }\n{\n}\n\n\
+    let text = "use crate::m::help;\nuse crate::{A, B};\nghost use Rattle.c.specs.Two.{other, good as is_two};\n\nimpl B {\n    pub fn none() {\n    }\n}\n\n\
+        impl C {\n    pub fn one(self) -> u8\n        ensures { result ≡ 1 }\n    {\n        help(1)\n    }\n}\n\n\
+        pub fn two(x: u8)\n    ensures {\n        IsTwo {n = 2}\n          x }\n    requires { x ≡ 0 }\n{\n}\n\n\
         pub(crate) fn three() {\n}\n\n\
-        #[no_mangle]\npub extern \"C\" fn four(\n    mem: &mut [u8],\n    x: u8,\n) -> u8\n    \
-        ensures { λ r. ⌜ IsFour (now (mem .entry)) x r (now (mem .exit)) ⌝ }\n{\n    0\n}\n\npub fn five() {\n}\n";
+        #[unsafe(no_mangle)]\npub extern \"C\" fn four(\n    mem: &mut [u8],\n    x: Position,\n) -> u8\n    \
+        ensures first { IsFour mem.old x.0 result.at mem.new }\n    ensures* second { result < 4 }\n{\n    0\n}\n\npub fn five() {\n}\n";
     let all = functions(text, "c::m", "src/m.rt");
     let f: Vec<&Function> = all.iter().filter(|f| f.public).collect();
     let names: Vec<&str> = f.iter().map(|f| f.path.as_str()).collect();
-    assert_eq!(names, ["c::B::none", "c::m::A::one", "c::m::two", "c::m::four", "c::m::five"]);
-    assert!(!f[1].requires && f[1].ensures == ["r ≡ 1"]);
+    assert_eq!(names, ["c::B::none", "c::m::C::one", "c::m::two", "c::m::four", "c::m::five"]);
+    assert!(!f[1].requires && f[1].ensures == ["result ≡ 1"]);
     assert!(f[1].body.contains("help(1)") && !f[1].body.contains("two"));
-    assert_eq!((f[1].imports["help"].as_str(), f[1].imports["isTwo"].as_str()), ("c::m::help", "good"));
+    assert_eq!((f[1].imports["help"].as_str(), f[1].imports["is_two"].as_str()), ("c::m::help", "good"));
     assert!(f[2].requires && f[2].ensures == ["IsTwo {n = 2} x"]);
-    assert!(!f[3].requires && f[3].ensures == ["IsFour (mem) x r (mem′)"]);
+    assert!(!f[3].requires && f[3].ensures == ["IsFour mem x result.at mem′", "result < 4"]);
     assert_eq!(f[3].parameters, ["mem", "x"]);
     assert!(!f[4].requires && f[4].ensures.is_empty());
     assert!(all.iter().any(|f| f.path == "c::m::three" && !f.public));
@@ -108,16 +108,19 @@ fn the_reader_of_sources_sees_what_it_should() {
 
 #[test]
 fn the_reader_of_rules_sees_what_it_should() {
-    let text = "-- a comment\npub record Is (a : ℕ) : Type 0 where\n  pub answer-is : a ≡ two\n\nunfoldable pub two : ℕ\ntwo = 2\n";
+    let text = "-- a comment\npub record Is (a : ℕ) : Type 0 where\n  pub answer_is : a ≡ two\n\nunfoldable pub two : ℕ\ntwo = 2\n\nabbrev pub three : ℕ\nthree = 3\n\n\
+        pub data Kind : Type 0 where\n  none : Kind\n";
     let names: Vec<(String, (usize, usize))> =
         definition::of_file(text, "specs/Two.antt").into_iter().map(|d| (d.name, d.lines)).collect();
-    assert_eq!(names, [("Is".to_string(), (1, 4)), ("two".to_string(), (4, 6))]);
+    let all = [("Is", (1, 4)), ("two", (4, 7)), ("three", (7, 10)), ("Kind", (10, 12))];
+    assert_eq!(names, all.map(|(name, lines)| (name.to_string(), lines)));
     let lemmas = lemma::of_text(
         "c",
-        "module _ {a : ℕ} where\n  pub is-once : {b : ℕ}\n    → Is a b → Is a b → b ≡ b\n  is-once x y = once\n",
+        "module _ {a : ℕ} where\n  pub is_once : {b : Told}\n    → Is a b.one → Is a b.one → b ≡ b\n  is_once x y = once\n",
     );
     assert_eq!(lemmas.len(), 1);
     assert_eq!(lemmas[0].words.iter().filter(|w| *w == "Is").count(), 2);
+    assert_eq!(lemmas[0].words.iter().filter(|w| *w == ".one").count(), 2);
     let edit = edit::parsed("no_work", true, "# Sham.\nfile: src/a.rt\nold: x\nnew: y\n");
     assert_eq!((edit.says.as_deref(), edit.old), (Some("Sham."), vec![("src/a.rt".into(), "x".into())]));
 }
