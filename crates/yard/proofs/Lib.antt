@@ -1,4 +1,4 @@
--- What the walks over the table share.
+-- Laws of the table and of what a step decides, which the proofs of functions share.
 pub mod Drops
 pub mod Doing
 pub mod Memories
