@@ -1,10 +1,10 @@
-//! The functions and constants of the crates' sources, with what stands between a function's name and its body.
+//! The functions, constants and macros of the crates' sources, with what stands between a function's name and its body.
 
 use crate::{entries, name_of, read, Crate};
-use std::collections::BTreeMap;
+use std::collections::{BTreeMap, BTreeSet};
 use std::path::Path;
 
-/// A function, or a constant.
+/// A function, a constant, or a macro under its name with its `!`.
 #[derive(Clone, Debug)]
 pub struct Function {
     pub path: String,
@@ -34,6 +34,10 @@ fn begins(line: &str) -> Option<(bool, &str)> {
     };
     let rest = rest.strip_prefix("extern \"C\" ").unwrap_or(rest).strip_prefix("fn ")?;
     Some((public, &rest[..rest.find(|c: char| !c.is_alphanumeric() && c != '_')?]))
+}
+
+fn named_macro(line: &str) -> Option<&str> {
+    line.strip_prefix("macro_rules! ")?.split(' ').next()
 }
 
 fn constant(line: &str) -> Option<&str> {
@@ -96,6 +100,23 @@ pub fn as_written(clause: &str) -> String {
     written
 }
 
+/// The type of an `impl` without its parameters, and whether the block is of a trait.
+fn implemented(line: &str) -> Option<(&str, bool)> {
+    let rest = line.strip_prefix("impl")?;
+    let head = match rest.strip_prefix('<') {
+        Some(parameters) => parameters.split_once("> ")?.1,
+        None => rest.strip_prefix(' ')?,
+    };
+    let (of, is_trait) = head.split_once(" for ").map_or((head, false), |(_, of)| (of, true));
+    Some((of.split(['<', '{']).next()?.trim(), is_trait))
+}
+
+/// The types that a text declares `pub`.
+fn public_types(text: &str) -> impl Iterator<Item = &str> {
+    let declared = text.lines().filter(|line| line.starts_with("pub struct ") || line.starts_with("pub enum "));
+    declared.filter_map(|line| line.split([' ', '<', '(', ';']).nth(2))
+}
+
 /// The path of the type of an `impl`: at the root of its crate where the file imports it from there, else in the file's module.
 fn path_of(owner: &str, imports: &BTreeMap<String, String>, module: &str) -> String {
     let root = module.split("::").next().unwrap();
@@ -140,32 +161,41 @@ fn parameters(head: &str) -> Vec<String> {
     parts[..parts.len() - 1].iter().filter_map(|part| last_word(part)).filter(|name| !name.is_empty()).collect()
 }
 
-/// The functions and constants of one file; `module` is its path.
-pub fn functions(text: &str, module: &str, file: &str) -> Vec<Function> {
+/// The functions, constants and macros of one file; `module` is its path. What a trait's block promises of a type of `seen` is public.
+pub fn functions(text: &str, module: &str, file: &str, seen: &BTreeSet<String>) -> Vec<Function> {
     let imports = imports(text, module.split("::").next().unwrap());
     let lines: Vec<&str> = text.lines().collect();
     let mut found = Vec::new();
     let mut owner = None;
+    // of the block of a trait, what its ghost members promise
+    let mut promised: Option<Vec<String>> = None;
     let mut at = 0;
     for (i, line) in text.split_inclusive('\n').enumerate() {
-        if let Some(rest) = line.strip_prefix("impl ") {
-            owner = Some(path_of(rest.trim_end().trim_end_matches('{').trim(), &imports, module));
+        if let Some((of, is_trait)) = implemented(line.trim_end()) {
+            owner = Some(path_of(of, &imports, module));
+            promised = (is_trait && seen.contains(of)).then(Vec::new);
         } else if line.trim_end() == "}" {
-            owner = None;
+            (owner, promised) = (None, None);
+        } else if let (Some(all), Some(member)) = (&mut promised, line.trim().strip_prefix("ghost ")) {
+            all.push(as_written(member.trim_end_matches(';').replace(" = { ", " = ").trim_end_matches(" }")));
         }
         let home = owner.clone().unwrap_or_else(|| module.to_string());
-        let made = |name: &str, public: bool, last: usize, head: &str, said: &[(&str, &str)], body: &str| Function {
-            parameters: parameters(head),
-            path: format!("{home}::{name}"),
-            file: file.into(),
-            module: module.into(),
-            owner: owner.clone(),
-            public,
-            requires: said.iter().any(|c| c.0 == "requires"),
-            ensures: said.iter().filter(|c| c.0 == "ensures").map(|c| as_written(c.1)).collect(),
-            lines: (i, last),
-            body: body.into(),
-            imports: imports.clone(),
+        let made = |name: &str, public: bool, last: usize, head: &str, said: &[(&str, &str)], body: &str| {
+            let own = said.iter().filter(|c| c.0 == "ensures").map(|c| as_written(c.1));
+            let ensures: Vec<String> = promised.iter().flatten().cloned().chain(own).collect();
+            Function {
+                parameters: parameters(head),
+                path: format!("{home}::{name}"),
+                file: file.into(),
+                module: module.into(),
+                owner: owner.clone(),
+                public: public || (promised.is_some() && !ensures.is_empty()),
+                requires: said.iter().any(|c| c.0 == "requires"),
+                ensures,
+                lines: (i, last),
+                body: body.into(),
+                imports: imports.clone(),
+            }
         };
         if let Some((public, name)) = begins(line) {
             let indent = &line[..line.len() - line.trim_start().len()];
@@ -176,8 +206,13 @@ pub fn functions(text: &str, module: &str, file: &str) -> Vec<Function> {
             let body = &body[..body.len().min((at + bytes).saturating_sub(text.len() - body.len()))];
             let head = &text[at..at + text[at..].find('{').unwrap_or(0)];
             found.push(made(name, public, last, head, &said, body));
+        } else if let Some(name) = named_macro(line) {
+            let last = lines[i..].iter().position(|l| *l == "}").map_or(lines.len(), |n| i + n + 1);
+            found.push(made(&format!("{name}!"), false, last, "", &[], &lines[i..last].join("\n")));
         } else if let Some(name) = constant(line) {
-            let last = lines[i..].iter().position(|l| l.ends_with(';')).map_or(i + 1, |n| i + n + 1);
+            // what ends with an opening brace or bracket goes on to the line that closes it
+            let ends = |l: &&str| if line.trim_end().ends_with(['{', '[']) { l.starts_with(['}', ']']) } else { l.ends_with(';') };
+            let last = lines[i..].iter().position(|l| ends(&l)).map_or(i + 1, |n| i + n + 1);
             found.push(made(name, false, last, "", &[], &lines[i..last].join("\n")));
         }
         at += line.len();
@@ -185,20 +220,23 @@ pub fn functions(text: &str, module: &str, file: &str) -> Vec<Function> {
     found
 }
 
-fn in_folder(folder: &Path, module: &str, place: &str) -> Vec<Function> {
+/// The sources below a folder: of each its text, its module, and its file.
+fn sources(folder: &Path, module: &str, place: &str) -> Vec<(String, String, String)> {
     let mut all = Vec::new();
     for path in entries(folder) {
         let stem = name_of(&path);
         let inner = if stem == "lib" || stem == "main" { module.to_string() } else { format!("{module}::{stem}") };
         if path.is_dir() {
-            all.extend(in_folder(&path, &inner, &format!("{place}/{stem}")));
+            all.extend(sources(&path, &inner, &format!("{place}/{stem}")));
         } else if path.extension().is_some_and(|e| e == "rt") {
-            all.extend(functions(&read(&path), &inner, &format!("{place}/{stem}.rt")));
+            all.push((read(&path), inner, format!("{place}/{stem}.rt")));
         }
     }
     all
 }
 
 pub fn of_crate(of: &Crate) -> Vec<Function> {
-    in_folder(&of.folder().join("src"), &of.name, "src")
+    let all = sources(&of.folder().join("src"), &of.name, "src");
+    let seen = all.iter().flat_map(|(text, _, _)| public_types(text)).map(String::from).collect();
+    all.iter().flat_map(|(text, module, file)| functions(text, module, file, &seen)).collect()
 }

@@ -65,13 +65,13 @@ fn said(function: &Function, promise: &[String], known: &BTreeSet<String>) -> BT
     promise.iter().map(own).filter(told).collect()
 }
 
-/// Of lemmas that suppose a promise twice, the one whose statement says most of what this promise says, and least else.
-fn best<'a>(said: &BTreeSet<String>, known: &BTreeSet<String>, near: &'a [Lemma]) -> Option<&'a Lemma> {
+/// Of lemmas that suppose a promise twice, the one whose statement says most of what this promise says, one of its own crate first, and least else.
+fn best<'a>(own: &str, said: &BTreeSet<String>, known: &BTreeSet<String>, near: &'a [Lemma]) -> Option<&'a Lemma> {
     let twice = |lemma: &Lemma, word: &String| lemma.words.iter().filter(|w| *w == word).count() >= 2;
     let score = |lemma: &Lemma| {
         let told = |word: &&String| known.contains(*word) || word.starts_with('.');
         let other = lemma.words.iter().filter(told).filter(|word| !said.contains(*word)).count();
-        (said.iter().filter(|word| twice(lemma, word)).count(), std::cmp::Reverse(other))
+        (said.iter().filter(|word| twice(lemma, word)).count(), lemma.of == own, std::cmp::Reverse(other))
     };
     let mut best: Option<&Lemma> = None;
     for lemma in near.iter().filter(|lemma| said.iter().any(|word| !word.starts_with('.') && twice(lemma, word))) {
@@ -90,6 +90,7 @@ pub fn unique(
     definitions: &[Definition],
     near: &[Lemma],
 ) -> Option<Lemma> {
+    let own = function.module.split("::").next().unwrap();
     let promise: Vec<String> = function.ensures.iter().flat_map(|e| words(e)).map(String::from).collect();
     let first = said(function, &promise, known);
     let within = definitions.iter().filter(|d| first.contains(&d.name)).flat_map(|d| d.words.iter().cloned());
@@ -97,5 +98,5 @@ pub fn unique(
     let deeper = said(function, &promises, known);
     let equation =
         || near.iter().find(|lemma| lemma.name == "once").filter(|_| function.ensures.join(" ").contains('≡'));
-    best(&first, known, near).or_else(equation).or_else(|| best(&deeper, known, near)).cloned()
+    best(own, &first, known, near).or_else(equation).or_else(|| best(own, &deeper, known, near)).cloned()
 }

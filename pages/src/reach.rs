@@ -6,12 +6,12 @@ use crate::function::Function;
 use crate::{read, words, Crate};
 use std::collections::{BTreeMap, BTreeSet};
 
-/// The paths in a body: names with `::` between them, and methods with their dot.
+/// The paths in a body: names with `::` between them, methods with their dot, and macros with their `!`.
 fn paths(body: &str) -> BTreeSet<String> {
     let code: String = body.lines().map(|line| line.split("//").next().unwrap_or("")).collect::<Vec<_>>().join("\n");
-    let in_path = |c: char| c.is_alphanumeric() || matches!(c, '_' | ':' | '.');
+    let in_path = |c: char| c.is_alphanumeric() || matches!(c, '_' | ':' | '.' | '!');
     code.split(|c: char| !in_path(c))
-        .map(|path| path.trim_matches(':').to_string())
+        .map(|path| path.trim_matches(':').trim_start_matches('!').to_string())
         .filter(|path| !path.is_empty())
         .collect()
 }

@@ -91,11 +91,15 @@ fn the_reader_of_sources_sees_what_it_should() {
         pub fn two(x: u8)\n    ensures {\n        IsTwo {n = 2}\n          x }\n    requires { x ≡ 0 }\n{\n}\n\n\
         pub(crate) fn three() {\n}\n\n\
         #[unsafe(no_mangle)]\npub extern \"C\" fn four(\n    mem: &mut [u8],\n    x: Position,\n) -> u8\n    \
-        ensures first { IsFour mem.old x.0 result.at mem.new }\n    ensures* second { result < 4 }\n{\n    0\n}\n\npub fn five() {\n}\n";
-    let all = functions(text, "c::m", "src/m.rt");
+        ensures first { IsFour mem.old x.0 result.at mem.new }\n    ensures* second { result < 4 }\n{\n    0\n}\n\npub fn five() {\n}\n\n\
+        impl TryFrom<u8> for Seen {\n    ghost try_from_gives = { Named };\n\n    fn try_from(name: u8) -> Result<Seen, u8> {\n    }\n}\n\n\
+        impl<const N: usize> fmt::Display for Seen<N> {\n    fn fmt(&self) {\n    }\n}\n\n\
+        impl From<u8> for Unseen {\n    fn from(x: u8) -> Unseen\n        ensures { result ≡ 1 }\n    {\n    }\n}\n\n\
+        macro_rules! row {\n    () => {\n    };\n}\n\nconst ROWS: [u8; 2] = table! {\n    one;\n};\n";
+    let all = functions(text, "c::m", "src/m.rt", &BTreeSet::from(["Seen".to_string()]));
     let f: Vec<&Function> = all.iter().filter(|f| f.public).collect();
     let names: Vec<&str> = f.iter().map(|f| f.path.as_str()).collect();
-    assert_eq!(names, ["c::B::none", "c::m::C::one", "c::m::two", "c::m::four", "c::m::five"]);
+    assert_eq!(names, ["c::B::none", "c::m::C::one", "c::m::two", "c::m::four", "c::m::five", "c::m::Seen::try_from"]);
     assert!(!f[1].requires && f[1].ensures == ["result ≡ 1"]);
     assert!(f[1].body.contains("help(1)") && !f[1].body.contains("two"));
     assert_eq!((f[1].imports["help"].as_str(), f[1].imports["is_two"].as_str()), ("c::m::help", "good"));
@@ -103,7 +107,11 @@ fn the_reader_of_sources_sees_what_it_should() {
     assert!(!f[3].requires && f[3].ensures == ["IsFour mem x result.at mem′", "result < 4"]);
     assert_eq!(f[3].parameters, ["mem", "x"]);
     assert!(!f[4].requires && f[4].ensures.is_empty());
-    assert!(all.iter().any(|f| f.path == "c::m::three" && !f.public));
+    assert!(f[5].ensures == ["try_from_gives = Named"]);
+    let inner = ["c::m::three", "c::m::Seen::fmt", "c::m::Unseen::from", "c::m::row!", "c::m::ROWS"];
+    assert!(inner.iter().all(|path| all.iter().any(|f| f.path == *path && !f.public)));
+    let rows = all.iter().find(|f| f.path == "c::m::ROWS").unwrap();
+    assert!(rows.lines.1 - rows.lines.0 == 3 && rows.body.contains("one;"));
 }
 
 #[test]

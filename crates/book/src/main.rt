@@ -1,12 +1,14 @@
 // The play book: reads a play from standard input and writes a line for each of its steps, or the line 22 where it is none.
 #![tactic(auto)]
 
-ghost use Rattle.std.specs.Prelude.{◌-◌, ◌≤◌, length};
+ghost use Rattle.std.specs.Prelude.{◌-◌, ◌≤◌};
 
-use num::answer::Answer;
 use play::show_lines;
 use script::judge::Judged;
-use std::io::Read;
+use std::io::{self, Read};
+
+// One byte more than a play can have tells that a file is too long; what is behind it stays unread.
+const FILE: usize = Judged::SIZE + 1;
 
 // Room for all lines of nearly every play; one with more is run again for those behind.
 const ROOM: usize = 1_048_576;
@@ -15,21 +17,18 @@ const ROOM: usize = 1_048_576;
 fn tell(rt: &impl Print, file: &[u8], from: u32, out: &mut [u8]) -> u32
     ensures { result ≤ 65537 - from }
 {
-    let mut lines: u32 = 0;
-    let mut written: u64 = 0;
-    let answer = show_lines(file, from, out, &mut lines, &mut written);
-    if answer != Answer::FINE {
+    let Ok(shown) = show_lines(file, from, out) else {
         let _ = rt.write_all(b"22\n");
         return 0;
-    }
-    let n = written as usize;
-    if rt.write_all(&out[..n]).is_ok() {
-        lines
+    };
+    if rt.write_all(&out[..shown.written]).is_ok() {
+        shown.lines
     } else {
         0
     }
 }
 
+// Nothing is counted by one: each turn goes on behind the lines that were told.
 fn tell_all(rt: &impl Print, file: &[u8], out: &mut [u8]) {
     let mut from: u32 = 1;
     let mut lines: u32 = 1;
@@ -39,26 +38,12 @@ fn tell_all(rt: &impl Print, file: &[u8], out: &mut [u8]) {
     }
 }
 
-// Fills `room` from its start until it is full, standard input ends or a read fails, and says how many bytes came.
-fn heard(rt: &impl Input, room: &mut [u8]) -> usize
-    ensures { result ≤ length room.new }
-{
-    let mut reader = rt.reader();
-    let mut done = 0;
-    while done < room.len() {
-        let n = reader.read(&mut room[done..]).unwrap_or(0);
-        if n == 0 {
-            break;
-        }
-        done += n;
-    }
-    done
-}
-
-// One byte more than a play can have tells that a file is too long; what is behind it stays unread.
 fn main(rt: HostRuntime) {
-    let mut file = [0u8; Judged::SIZE + 1];
-    let n = heard(&rt, &mut file);
-    let mut out = [0u8; ROOM];
+    let mut file = [0; FILE];
+    let mut rest = &mut file[..];
+    // What came before a failed read counts.
+    let _ = io::copy(&mut rt.reader().take(FILE as u64), &mut rest);
+    let n = FILE.saturating_sub(rest.len());
+    let mut out = [0; ROOM];
     tell_all(&rt, &file[..n], &mut out);
 }

@@ -1,7 +1,5 @@
 pub mod Pages
-pub mod Answers
-pub mod Works
-pub mod Phases
+pub mod Refusing
 pub mod Cases
 pub mod Clients
 pub mod Turns

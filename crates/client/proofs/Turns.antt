@@ -21,10 +21,9 @@ use Rattle.client.specs.declared.Stamp.{Stamp}
 use Rattle.client.specs.declared.Phase.{Phase}
 use Rattle.client.specs.declared.Client.{Client}
 use Rattle.client.specs.declared.state.Job.{Job}
-use Rattle.client.specs.declared.turn.Turn.{Turn}
 use Rattle.client.specs.Message.{last_refusal, no_refusal, is_showable, plain}
 use Rattle.client.specs.Client.{token_limit, last_number, busy, at_position, carrying, holding, planning}
-use Rattle.client.specs.Turn.{rests, over, ends, sent, sends, otherwise}
+use Rattle.client.specs.Turn.{Turn, rests, over, ends, sent, sends, otherwise}
 use Rattle.client.specs.Begin.{begin_answer, with_job, begin_turn, give_up}
 use Rattle.client.specs.Way.{head_for, after_for, unit_above, plan_for, start_for}
 use Rattle.client.specs.Append.{draws, writes, writes_at, writes_on, not_at_head, not_later, not_written}

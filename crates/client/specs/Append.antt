@@ -7,10 +7,9 @@ use Rattle.client.specs.declared.Ask.TheVariants.{Token, Unit}
 use Rattle.client.specs.declared.Reply.{Reply}
 use Rattle.client.specs.declared.Phase.TheVariants.{Drawing, Writing}
 use Rattle.client.specs.declared.Client.{Client}
-use Rattle.client.specs.declared.turn.Turn.{Turn}
 use Rattle.client.specs.Message.{number_of, plain, bearing, if_given, if_fine}
 use Rattle.client.specs.Client.{token_limit, in_phase, at_position}
-use Rattle.client.specs.Turn.{rests, ends, sends, otherwise}
+use Rattle.client.specs.Turn.{Turn, rests, ends, sends, otherwise}
 use Rattle.client.specs.Way.{head_for, after_for}
 
 -- takes the nth token

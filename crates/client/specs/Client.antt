@@ -77,71 +77,16 @@ busy (Working p) = true
 -- ---- one thing changed
 
 abbrev pub in_phase : Client → Phase → Client
-in_phase c p = record {
-  life = c.life;
-  used = c.used;
-  begun = c.begun;
-  stage = Working p;
-  work = c.work;
-  change = c.change;
-  position = c.position;
-  page = c.page;
-  layout = c.layout;
-  plan = c.plan;
-}
+in_phase c p = record c { stage = Working p }
 
 abbrev pub at_position : Client → Position → Client
-at_position c p = record {
-  life = c.life;
-  used = c.used;
-  begun = c.begun;
-  stage = c.stage;
-  work = c.work;
-  change = c.change;
-  position = p;
-  page = c.page;
-  layout = c.layout;
-  plan = c.plan;
-}
+at_position c p = record c { position = p }
 
 abbrev pub carrying : Client → Page → Client
-carrying c g = record {
-  life = c.life;
-  used = c.used;
-  begun = c.begun;
-  stage = c.stage;
-  work = c.work;
-  change = c.change;
-  position = c.position;
-  page = g;
-  layout = c.layout;
-  plan = c.plan;
-}
+carrying c g = record c { page = g }
 
 abbrev pub holding : Client → Layout → Client
-holding c l = record {
-  life = c.life;
-  used = c.used;
-  begun = c.begun;
-  stage = c.stage;
-  work = c.work;
-  change = c.change;
-  position = c.position;
-  page = c.page;
-  layout = l;
-  plan = c.plan;
-}
+holding c l = record c { layout = l }
 
 abbrev pub planning : Client → Layout → Client
-planning c l = record {
-  life = c.life;
-  used = c.used;
-  begun = c.begun;
-  stage = c.stage;
-  work = c.work;
-  change = c.change;
-  position = c.position;
-  page = c.page;
-  layout = c.layout;
-  plan = l;
-}
+planning c l = record c { plan = l }

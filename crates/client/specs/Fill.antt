@@ -6,10 +6,9 @@ use Rattle.client.specs.declared.Page.{Page}
 use Rattle.client.specs.declared.Reply.{Reply}
 use Rattle.client.specs.declared.Phase.TheVariants.{Filling, Looking}
 use Rattle.client.specs.declared.Client.{Client}
-use Rattle.client.specs.declared.turn.Turn.{Turn}
 use Rattle.client.specs.Message.{is_showable, number_of, plain, bearing, if_fine, if_shown}
 use Rattle.client.specs.Client.{in_phase, carrying}
-use Rattle.client.specs.Turn.{rests, ends, sends, otherwise}
+use Rattle.client.specs.Turn.{Turn, rests, ends, sends, otherwise}
 use Rattle.client.specs.Way.{head_for, after_for}
 
 -- writes the page carried at u: junk, or what the head holds

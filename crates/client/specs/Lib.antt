@@ -10,4 +10,4 @@ pub mod Fill
 pub mod Trim
 pub mod Reorganise
 pub mod Take
-pub mod InsideRequest
+pub mod InsideTake

@@ -1,7 +1,9 @@
 -- What a client sends and what is handed back to it (docs/RULES.md, 8.1).
-use Rattle.std.specs.Prelude.{ℕ, Bool, cond, ◌&&◌, ◌||◌, eqb, leb, ltb, replicate}
+use Rattle.std.specs.Prelude.{◌≡◌, ℕ, Bool, true, false, cond, ◌&&◌, ◌||◌, eqb, leb, ltb, replicate, Option, None, Some}
 use Rattle.num.specs.declared.Edges.{Edges}
 use Rattle.num.specs.declared.Position.{Position}
+use Rattle.num.specs.declared.refusal.Refusal.{Refusal}
+use Rattle.num.specs.Refusals.{number}
 use Rattle.layout.specs.declared.Layout.{Layout}
 use Rattle.layout.specs.Value.{blank}
 use Rattle.client.specs.declared.Page.{Page}
@@ -70,6 +72,11 @@ last_refusal = 12
 -- no machine refuses by it
 unfoldable pub no_refusal : ℕ → Bool
 no_refusal n = eqb n 0 || ltb last_refusal n
+
+-- the refusal of a machine that has the number, if any
+abbrev pub IsRefusal : ℕ → Option Refusal → Type 0
+IsRefusal n None = no_refusal n ≡ true
+IsRefusal n (Some r) = (number r ≡ n) × (no_refusal n ≡ false)
 
 -- ---- what an answer gives where it is the expected one, and what any other gives
 

@@ -6,10 +6,9 @@ use Rattle.client.specs.declared.Page.{Page}
 use Rattle.client.specs.declared.Reply.{Reply}
 use Rattle.client.specs.declared.Phase.TheVariants.{Reading}
 use Rattle.client.specs.declared.Client.{Client}
-use Rattle.client.specs.declared.turn.Turn.{Turn}
 use Rattle.client.specs.Message.{is_showable, number_of, plain, if_shown}
 use Rattle.client.specs.Client.{in_phase}
-use Rattle.client.specs.Turn.{rests, over, sends, otherwise}
+use Rattle.client.specs.Turn.{Turn, rests, over, sends, otherwise}
 
 -- asks u
 abbrev pub reads : Client → ℕ → Turn

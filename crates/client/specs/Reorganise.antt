@@ -8,10 +8,9 @@ use Rattle.client.specs.declared.Ask.TheVariants.{Unit, Start}
 use Rattle.client.specs.declared.Reply.{Reply}
 use Rattle.client.specs.declared.Phase.TheVariants.{Sealing, Offering, Starting}
 use Rattle.client.specs.declared.Client.{Client}
-use Rattle.client.specs.declared.turn.Turn.{Turn}
 use Rattle.client.specs.Message.{number_of, plain, offering, if_fine, if_edged}
 use Rattle.client.specs.Client.{in_phase, planning}
-use Rattle.client.specs.Turn.{rests, ends, sends, otherwise}
+use Rattle.client.specs.Turn.{Turn, rests, ends, sends, otherwise}
 use Rattle.client.specs.Way.{unit_above, plan_for, start_for}
 
 -- seals u with the held epoch, e being the largest edges so far

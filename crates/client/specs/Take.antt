@@ -13,10 +13,9 @@ use Rattle.client.specs.declared.Phase.TheVariants.{Drawing, Writing, Reading, F
 use Rattle.client.specs.declared.Stage.{Stage}
 use Rattle.client.specs.declared.Stage.TheVariants.{Idle, Fetching, Working}
 use Rattle.client.specs.declared.Client.{Client}
-use Rattle.client.specs.declared.turn.Turn.{Turn}
 use Rattle.client.specs.Message.{number_of, if_held}
 use Rattle.client.specs.Client.{holding}
-use Rattle.client.specs.Turn.{rests, ends, otherwise}
+use Rattle.client.specs.Turn.{Turn, rests, ends, otherwise}
 use Rattle.client.specs.Way.{head_for, tail_for}
 use Rattle.client.specs.Append.{draws, on_token, on_written}
 use Rattle.client.specs.Read.{reads, on_read}

@@ -5,10 +5,9 @@ use Rattle.client.specs.declared.Ask.TheVariants.{Unit}
 use Rattle.client.specs.declared.Reply.{Reply}
 use Rattle.client.specs.declared.Phase.TheVariants.{Trimming, Pruning}
 use Rattle.client.specs.declared.Client.{Client}
-use Rattle.client.specs.declared.turn.Turn.{Turn}
 use Rattle.client.specs.Message.{number_of, plain, if_fine}
 use Rattle.client.specs.Client.{in_phase}
-use Rattle.client.specs.Turn.{ends, sends, otherwise}
+use Rattle.client.specs.Turn.{Turn, ends, sends, otherwise}
 use Rattle.client.specs.Way.{after_for, unit_above}
 
 abbrev pub trims : Client → ℕ → Turn

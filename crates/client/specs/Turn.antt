@@ -5,11 +5,24 @@ use Rattle.client.specs.declared.Page.{Page}
 use Rattle.client.specs.declared.Query.{Query}
 use Rattle.client.specs.declared.Work.TheVariants.{Append}
 use Rattle.client.specs.declared.Client.{Client}
-use Rattle.client.specs.declared.Act.TheVariants.{Rests, Sends, Ends}
+use Rattle.client.specs.declared.Act.{Act as Does}
+use Rattle.client.specs.declared.Act.TheVariants.{Rests as RestsNow, Sends as SendsNow, Ends as EndsNow}
 use Rattle.client.specs.declared.Outcome.{Outcome}
-use Rattle.client.specs.declared.turn.Turn.{Turn}
+use Rattle.client.specs.declared.turn.Turn.{Turn as TurnNow}
 use Rattle.client.specs.Message.{no_page, no_query, no_refusal}
 use Rattle.client.specs.Client.{last_number, idle}
+
+pub data Act : Type 0 where
+  Rests : Act
+  Sends : Request → Act
+  Ends : Act
+
+-- the client afterwards; the request where one is sent, and the outcome where the operation ends
+pub record Turn : Type 0 where
+  pub client : Client
+  pub act : Act
+  pub query : Query
+  pub outcome : Outcome
 
 abbrev pub no_outcome : Outcome
 no_outcome = record { number = 0; position = record { 0 = 0 }; epoch = record { 0 = 0 }; page = no_page; work = Append; sent = 0 }
@@ -36,18 +49,7 @@ ends c n = over c n no_page
 
 -- its numbers used up to this one
 abbrev pub numbered : Client → Request → Client
-numbered c n = record {
-  life = c.life;
-  used = n;
-  begun = c.begun;
-  stage = c.stage;
-  work = c.work;
-  change = c.change;
-  position = c.position;
-  page = c.page;
-  layout = c.layout;
-  plan = c.plan;
-}
+numbered c n = record c { used = n }
 
 -- the number after the last one used
 abbrev pub next : Client → Request
@@ -63,3 +65,23 @@ sends c q = cond (leb last_number c.used.0) (ends c 19) (sent c q)
 -- any other answer ends the operation with its number; one that has none, or one that no machine gives, never answers what was asked, and is ignored
 unfoldable pub otherwise : Client → ℕ → Turn
 otherwise c n = cond (no_refusal n) (rests c) (ends c n)
+
+-- ---- a turn of the code as one of the rules
+
+abbrev pub act_in : Does → Act
+act_in RestsNow = Rests
+act_in (SendsNow n q) = Sends n
+act_in (EndsNow o) = Ends
+
+abbrev pub query_in : Does → Query
+query_in RestsNow = no_query
+query_in (SendsNow n q) = q
+query_in (EndsNow o) = no_query
+
+abbrev pub outcome_in : Does → Outcome
+outcome_in RestsNow = no_outcome
+outcome_in (SendsNow n q) = no_outcome
+outcome_in (EndsNow o) = o
+
+abbrev pub turn_in : TurnNow → Turn
+turn_in t = record { client = t.client; act = act_in t.act; query = query_in t.act; outcome = outcome_in t.act }

@@ -2,11 +2,9 @@
 use Rattle.std.specs.Prelude.{ℕ, List, take}
 use Rattle.num.specs.declared.Edges.{Edges}
 use Rattle.layout.specs.declared.Layout.{Layout}
-use Rattle.layout.specs.declared.plan.Planned.{Planned}
-use Rattle.layout.specs.declared.plan.Started.{Started}
 use Rattle.layout.specs.Value.{lay_of}
 use Rattle.layout.specs.Places.{head_of, tail_of, after, units_at, next_unit}
-use Rattle.layout.specs.Plan.{planned_for, started_at}
+use Rattle.layout.specs.Plan.{StartAnswer, Planned, planned_for, started_at}
 use Rattle.client.specs.declared.Change.{Change}
 use Rattle.client.specs.declared.Client.{Client}
 
@@ -39,5 +37,5 @@ abbrev pub plan_for : Client → Planned
 plan_for c = planned_for c.layout (drops_of c.change) c.change.wish
 
 -- 9; or 0, the new layout whole, and where the sequencer is started. e are the largest edges
-abbrev pub start_for : Client → Edges → Started
+abbrev pub start_for : Client → Edges → StartAnswer
 start_for c e = started_at c.plan e

@@ -1,64 +1,71 @@
 // Append: take a token, write head to tail.
-ghost use Rattle.std.specs.Prelude.{◌≡◌};
-ghost use Rattle.client.specs.Append.{on_token, writes_on, not_written, on_written};
+ghost use Rattle.std.specs.Prelude.{◌≡◌, false};
+ghost use Rattle.num.specs.Refusals.{number};
+ghost use Rattle.client.specs.Turn.{turn_in};
+ghost use Rattle.client.specs.Message.{no_refusal};
+ghost use Rattle.client.specs.Append.{draws, writes, writes_at, writes_on, not_written};
 
-use crate::message::number_of;
-use crate::request::{asks, asks_next};
-use crate::turn::{Turn, ends, otherwise, rests};
+use crate::turn::{Turn, done, ends, rests, sends};
 use crate::way::{after_for, head_for};
-use crate::{Client, Phase, Reply};
+use crate::{Ask, Client, Page, Phase, Query, UnitAsk};
 use num::Position;
-use num::answer::Answer;
+use num::refusal::Refusal;
+
+// Takes the nth token.
+pub(crate) fn draws(c: Client, n: u8) -> Turn
+    ensures { turn_in result ≡ draws c n }
+{
+    sends(
+        c.in_phase(Phase::Drawing(n)),
+        Query::plain(Ask::Token(c.layout.epoch)),
+    )
+}
+
+// Writes at a unit, with the nth token.
+fn writes(c: Client, unit: u8, n: u8) -> Turn
+    ensures { turn_in result ≡ writes c unit n }
+{
+    let ask = UnitAsk::Write(c.layout.epoch, c.position);
+    sends(
+        c.in_phase(Phase::Writing(unit, n)),
+        Query::bearing(Ask::Unit(unit, ask), c.page),
+    )
+}
 
 // The token's answer; a token that no sequencer gives never answers.
-pub(crate) fn on_token(c: Client, n: u8, reply: Reply) -> Turn
-    ensures { result ≡ on_token c n reply }
+#[tactic(auto, unfolding(crate::specs::Append::writes_at))]
+pub(crate) fn writes_at(c: Client, n: u8, p: Position) -> Turn
+    ensures { turn_in result ≡ writes_at c n p }
 {
-    let Reply::Given(p) = reply else {
-        return otherwise(c, number_of(reply));
-    };
-    if Position::LIMIT <= p.0 {
-        return rests(c);
+    if p.0 < Position::LIMIT {
+        let at = c.at_position(p);
+        writes(at, head_for(at), n)
+    } else {
+        rests(c)
     }
-    let at = c.at_position(p);
-    let head = head_for(at);
-    asks(at, head, Phase::Writing(head, n))
 }
 
 // Head to tail; after the tail: done.
+#[tactic(auto, unfolding(crate::specs::Append::writes_on))]
 pub(crate) fn writes_on(c: Client, unit: u8, n: u8) -> Turn
-    ensures { result ≡ writes_on c unit n }
+    ensures { turn_in result ≡ writes_on c unit n }
 {
-    let next = after_for(c, unit);
-    asks_next(c, next, Phase::Writing(next, n))
+    match after_for(c, unit) {
+        None => done(c, Page::blank()),
+        Some(next) => writes(c, next, n),
+    }
 }
 
 // The head answers 5 or 6: another token, 8 in all. 6 at a later unit counts as fine there.
-pub(crate) fn not_written(c: Client, unit: u8, n: u8, number: u8) -> Turn
-    ensures { result ≡ not_written c unit n number }
+#[tactic(auto, unfolding(crate::specs::Append::not_written, crate::specs::Append::not_at_head, crate::specs::Append::not_later, crate::specs::Turn::otherwise))]
+pub(crate) fn not_written(c: Client, unit: u8, n: u8, refusal: Refusal) -> Turn
+    requires { no_refusal (number refusal) ≡ false }
+    ensures { turn_in result ≡ not_written c unit n (number refusal) }
 {
-    let head = head_for(c);
-    if unit == head {
-        if (number == Answer::TRIMMED) | (number == Answer::WRITTEN) {
-            if n < Client::TOKENS {
-                return asks(c, 0, Phase::Drawing(n + 1));
-            }
-            return ends(c, number);
-        }
-        return otherwise(c, number);
+    let at_head = unit == head_for(c);
+    match refusal {
+        Refusal::Trimmed | Refusal::Written if at_head && n < Client::TOKENS => draws(c, n + 1),
+        Refusal::Written if !at_head => writes_on(c, unit, n),
+        _ => ends(c, refusal),
     }
-    if number == Answer::WRITTEN {
-        return writes_on(c, unit, n);
-    }
-    otherwise(c, number)
-}
-
-// The answer of a unit that was written to.
-pub(crate) fn on_written(c: Client, unit: u8, n: u8, reply: Reply) -> Turn
-    ensures { result ≡ on_written c unit n reply }
-{
-    let Reply::Fine = reply else {
-        return not_written(c, unit, n, number_of(reply));
-    };
-    writes_on(c, unit, n)
 }

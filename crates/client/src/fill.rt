@@ -1,55 +1,65 @@
 // Fill: write junk at the head, or carry on what it holds; then on to the tail.
 ghost use Rattle.std.specs.Prelude.{◌≡◌};
-ghost use Rattle.client.specs.Fill.{fills_on, not_filled, on_filled, on_looked};
+ghost use Rattle.client.specs.Turn.{turn_in};
+ghost use Rattle.client.specs.Fill.{fills, looks, fills_on, not_filled, page_carried};
 
-use crate::message::number_of;
-use crate::request::{asks, asks_next};
-use crate::turn::{Turn, otherwise, rests};
+use crate::turn::{Turn, done, rests, sends};
 use crate::way::{after_for, head_for};
-use crate::{Client, Page, Phase, Reply};
-use num::answer::Answer;
+use crate::{Ask, Client, Page, Phase, Query, UnitAsk};
+
+// Writes the page carried at a unit: junk, or what the head holds.
+pub(crate) fn fills(c: Client, unit: u8) -> Turn
+    ensures { turn_in result ≡ fills c unit }
+{
+    let ask = UnitAsk::Write(c.layout.epoch, c.position);
+    sends(
+        c.in_phase(Phase::Filling(unit)),
+        Query::bearing(Ask::Unit(unit, ask), c.page),
+    )
+}
+
+// Reads the head.
+fn looks(c: Client, unit: u8) -> Turn
+    ensures { turn_in result ≡ looks c unit }
+{
+    let ask = UnitAsk::Read(c.layout.epoch, c.position);
+    sends(
+        c.in_phase(Phase::Looking(unit)),
+        Query::plain(Ask::Unit(unit, ask)),
+    )
+}
 
 // On to the tail.
+#[tactic(auto, unfolding(crate::specs::Fill::fills_on))]
 pub(crate) fn fills_on(c: Client, unit: u8) -> Turn
-    ensures { result ≡ fills_on c unit }
+    ensures { turn_in result ≡ fills_on c unit }
 {
-    let next = after_for(c, unit);
-    asks_next(c, next, Phase::Filling(next))
+    match after_for(c, unit) {
+        None => done(c, Page::blank()),
+        Some(next) => fills(c, next),
+    }
 }
 
 // On 6 the head is read; 6 at a later unit counts as fine.
-pub(crate) fn not_filled(c: Client, unit: u8, number: u8) -> Turn
-    ensures { result ≡ not_filled c unit number }
+#[tactic(auto, unfolding(crate::specs::Fill::not_filled))]
+pub(crate) fn not_filled(c: Client, unit: u8) -> Turn
+    ensures { turn_in result ≡ not_filled c unit 6 }
 {
-    let head = head_for(c);
-    if number == Answer::WRITTEN {
-        if unit == head {
-            return asks(c, unit, Phase::Looking(unit));
-        }
-        return fills_on(c, unit);
+    if unit == head_for(c) {
+        looks(c, unit)
+    } else {
+        fills_on(c, unit)
     }
-    otherwise(c, number)
-}
-
-// The answer of a unit that was written to.
-pub(crate) fn on_filled(c: Client, unit: u8, reply: Reply) -> Turn
-    ensures { result ≡ on_filled c unit reply }
-{
-    let Reply::Fine = reply else {
-        return not_filled(c, unit, number_of(reply));
-    };
-    fills_on(c, unit)
 }
 
 // What the head holds is carried instead of junk; a page that no unit shows never answers.
-pub(crate) fn on_looked(c: Client, unit: u8, reply: Reply, page: Page) -> Turn
-    ensures { result ≡ on_looked c unit reply page }
+#[tactic(auto, unfolding(crate::specs::Fill::page_carried))]
+pub(crate) fn page_carried(c: Client, unit: u8, page: Page) -> Turn
+    ensures { turn_in result ≡ page_carried c unit page }
 {
-    let Reply::Shown = reply else {
-        return otherwise(c, number_of(reply));
-    };
     if page.is_showable() {
-        return fills_on(c.carrying(page), unit);
+        fills_on(c.carrying(page), unit)
+    } else {
+        rests(c)
     }
-    rests(c)
 }

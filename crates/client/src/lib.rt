@@ -11,7 +11,6 @@ pub mod job;
 pub mod message;
 pub mod read;
 pub mod reorganise;
-pub mod request;
 pub mod state;
 pub mod take;
 pub mod trim;
@@ -39,6 +38,7 @@ pub enum Ask {
 }
 
 // Data or junk: `len` bytes, and blank past them. There is room for those of either shape.
+// Kind and length are numbers: `take` and yard's `step` are passed any, of a letter that no unit sent too.
 #[derive(Clone, Copy)]
 pub struct Page {
     pub kind: u8,
@@ -46,7 +46,7 @@ pub struct Page {
     pub bytes: [u8; Page::ROOM],
 }
 
-// A request: the page of a write and the layout of an offer are blank elsewhere.
+// A request: the page of a write and the layout of an offer are blank elsewhere, as in the letter that yard's `step` is lent for it.
 #[derive(Clone, Copy)]
 pub struct Query {
     pub ask: Ask,
@@ -55,6 +55,7 @@ pub struct Query {
 }
 
 // What was answered: a layout is held, a token given, the work done, a page shown, a unit's edges told, or a number.
+// `Refused` takes any number, and no `Refusal`: `number_of` and `take` are passed what a letter bears, and answer for every number.
 #[derive(Clone, Copy)]
 pub enum Reply {
     Held,
@@ -65,7 +66,7 @@ pub enum Reply {
     Refused(u8),
 }
 
-// An answer: the page shown and the layout held are blank elsewhere.
+// An answer: the page shown and the layout held are blank elsewhere. `take` is passed it, as the letter bears it.
 #[derive(Clone, Copy)]
 pub struct Response {
     pub reply: Reply,
@@ -92,7 +93,7 @@ pub enum Work {
     Reorganise,
 }
 
-// What a reorganise changes: units to drop, the first `count`, and new sets if wanted.
+// What a reorganise changes: units to drop, the first `count`, and new sets if wanted. `begin` is passed any count, and answers 10 above eight.
 #[derive(Clone, Copy)]
 pub struct Change {
     pub count: u8,
@@ -140,15 +141,8 @@ pub struct Client {
     pub plan: Layout,
 }
 
-#[derive(Clone, Copy)]
-pub enum Act {
-    Rests,
-    Sends(Request),
-    Ends,
-}
-
 // How an operation ended: its number, the position under way, the epoch of the layout it fetched, the page that a read was shown,
-// what the operation was, and how many requests it sent.
+// what the operation was, and how many requests it sent. `put_line` of crate line is passed any number.
 #[derive(Clone, Copy)]
 pub struct Outcome {
     pub number: u8,
@@ -157,4 +151,12 @@ pub struct Outcome {
     pub page: Page,
     pub work: Work,
     pub sent: u32,
+}
+
+// Nothing, a request under its number, or the end of the operation.
+#[derive(Clone, Copy)]
+pub enum Act {
+    Rests,
+    Sends(Request, Query),
+    Ends(Outcome),
 }

@@ -1,11 +1,11 @@
-// What a client sends and what is handed back to it. An enum holds no array, so a page and a layout stand beside it.
+// What a client sends and what is handed back to it.
 ghost use Rattle.std.specs.Prelude.{◌≡◌};
-ghost use Rattle.client.specs.Message.{no_page, no_query, no_response, no_refusal, junk, is_showable, number_of, plain, bearing, offering};
+ghost use Rattle.layout.specs.Value.{padded};
+ghost use Rattle.client.specs.Message.{IsRefusal, page_limit, no_page, no_query, no_response, junk, is_showable, number_of, plain, bearing, offering};
 
 use crate::{Ask, Page, Query, Reply, Response};
 use layout::Layout;
-use num::answer::Answer;
-use num::{Epoch, Position, Request};
+use num::refusal::Refusal;
 
 impl Page {
     // Bytes that a page has room for.
@@ -43,11 +43,22 @@ impl Page {
         }
     }
 
+    // Bytes as a page holds them: as many as there is room for, and zeros behind them.
+    pub fn padded(bytes: &[u8]) -> [u8; Page::ROOM]
+        ensures { result ≡ padded page_limit 0 bytes.now }
+    {
+        let n = bytes.len().min(Page::ROOM);
+        let mut held = [0u8; Page::ROOM];
+        held[..n].copy_from_slice(&bytes[..n]);
+        held
+    }
+
     // Data or junk, and no longer than there is room for.
+    #[tactic(auto, unfolding(crate::specs::Message::is_showable))]
     pub(crate) fn is_showable(self) -> bool
         ensures { result ≡ is_showable self }
     {
-        ((self.kind == Page::DATA) | (self.kind == Page::JUNK)) & (self.len <= Page::LARGE)
+        matches!(self.kind, Page::DATA | Page::JUNK) && self.len <= Page::LARGE
     }
 }
 
@@ -63,28 +74,30 @@ impl Query {
     pub(crate) fn plain(ask: Ask) -> Query
         ensures { result ≡ plain ask }
     {
-        let page = Page::blank();
-        let layout = Layout::blank();
-        Query { ask, page, layout }
+        Query {
+            ask,
+            page: Page::blank(),
+            layout: Layout::blank(),
+        }
     }
 
     // A request that bears a page.
     pub(crate) fn bearing(ask: Ask, page: Page) -> Query
         ensures { result ≡ bearing ask page }
     {
-        let layout = Layout::blank();
-        Query { ask, page, layout }
+        Query {
+            page,
+            ..Query::plain(ask)
+        }
     }
 
     // The offer of a layout.
     pub(crate) fn offering(layout: Layout) -> Query
         ensures { result ≡ offering layout }
     {
-        let page = Page::blank();
         Query {
-            ask: Ask::Offer,
-            page,
             layout,
+            ..Query::plain(Ask::Offer)
         }
     }
 }
@@ -94,21 +107,25 @@ impl Response {
     pub fn blank() -> Response
         ensures { result ≡ no_response }
     {
-        let page = Page::blank();
-        let layout = Layout::blank();
         Response {
             reply: Reply::Refused(0),
-            page,
-            layout,
+            page: Page::blank(),
+            layout: Layout::blank(),
         }
     }
 }
 
-// No machine refuses by it: units, sequencer and holder give 1 to 12.
-pub(crate) fn is_no_refusal(number: u8) -> bool
-    ensures { result ≡ no_refusal number }
-{
-    (number == 0) | (Answer::SUCCESSOR < number)
+impl Reply {
+    // The refusal of a machine: units, sequencer and holder give 1 to 12.
+    #[tactic(auto, using(crate::proofs::Refusing::machine_refusal), unfolding(crate::specs::Message::no_refusal))]
+    pub(crate) fn refusal(self) -> Option<Refusal>
+        ensures { IsRefusal (number_of self) result }
+    {
+        match self {
+            Reply::Refused(number @ 1..=12) => Refusal::try_from(number).ok(),
+            _ => None,
+        }
+    }
 }
 
 // The number of an answer (docs/RULES.md, 10): 0 for each that is no refusal.

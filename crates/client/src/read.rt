@@ -1,21 +1,29 @@
 // Read: ask the tail.
 ghost use Rattle.std.specs.Prelude.{◌≡◌};
-ghost use Rattle.client.specs.Read.{on_read};
+ghost use Rattle.client.specs.Turn.{turn_in};
+ghost use Rattle.client.specs.Read.{reads, page_taken};
 
-use crate::message::number_of;
-use crate::turn::{Turn, otherwise, over, rests};
-use crate::{Client, Page, Reply};
-use num::answer::Answer;
+use crate::turn::{Turn, done, rests, sends};
+use crate::{Ask, Client, Page, Phase, Query, UnitAsk};
+
+pub(crate) fn reads(c: Client, unit: u8) -> Turn
+    ensures { turn_in result ≡ reads c unit }
+{
+    let ask = UnitAsk::Read(c.layout.epoch, c.position);
+    sends(
+        c.in_phase(Phase::Reading(unit)),
+        Query::plain(Ask::Unit(unit, ask)),
+    )
+}
 
 // The page is the outcome's, which bears the epoch; one that no unit shows never answers.
-pub(crate) fn on_read(c: Client, reply: Reply, page: Page) -> Turn
-    ensures { result ≡ on_read c reply page }
+#[tactic(auto, unfolding(crate::specs::Read::page_taken))]
+pub(crate) fn page_taken(c: Client, page: Page) -> Turn
+    ensures { turn_in result ≡ page_taken c page }
 {
-    let Reply::Shown = reply else {
-        return otherwise(c, number_of(reply));
-    };
     if page.is_showable() {
-        return over(c, Answer::FINE, page);
+        done(c, page)
+    } else {
+        rests(c)
     }
-    rests(c)
 }

@@ -3,10 +3,10 @@ ghost use Rattle.std.specs.Prelude.{◌≡◌};
 ghost use Rattle.client.specs.Client.{job_of, append_of, reorganise_of, fresh, idle, no_change, busy, in_phase, at_position, carrying, holding, planning};
 
 use crate::{Change, Client, Page, Phase, Stage, Work};
-use layout::{Chain, Layout, Wish};
-use num::{Epoch, Position, Request};
+use layout::{Layout, Wish};
+use num::{Position, Request};
 
-// An operation as it is asked for: an append brings its data, a reorganise its change.
+// An operation as it is asked for: an append brings its data, a reorganise its change. `begin` and yard's `step` are passed it so.
 #[derive(Clone, Copy)]
 pub struct Job {
     pub work: Work,
@@ -22,17 +22,10 @@ impl Change {
     pub fn blank() -> Change
         ensures { result ≡ no_change }
     {
-        let wish = Wish {
-            count: 0,
-            sets: [Chain {
-                count: 0,
-                units: [0u8; Chain::UNITS],
-            }; Layout::SETS],
-        };
         Change {
             count: 0,
             drops: [0u8; Change::DROPS],
-            wish,
+            wish: Wish::blank(),
         }
     }
 }
@@ -42,24 +35,21 @@ impl Job {
     pub fn of(work: Work) -> Job
         ensures { result ≡ job_of work }
     {
-        let change = Change::blank();
         Job {
             work,
             len: 0,
             bytes: [0u8; Page::ROOM],
-            change,
+            change: Change::blank(),
         }
     }
 
     pub fn append(len: u8, bytes: [u8; Page::ROOM]) -> Job
         ensures { result ≡ append_of len bytes }
     {
-        let change = Change::blank();
         Job {
-            work: Work::Append,
             len,
             bytes,
-            change,
+            ..Job::of(Work::Append)
         }
     }
 
@@ -67,10 +57,8 @@ impl Job {
         ensures { result ≡ reorganise_of change }
     {
         Job {
-            work: Work::Reorganise,
-            len: 0,
-            bytes: [0u8; Page::ROOM],
             change,
+            ..Job::of(Work::Reorganise)
         }
     }
 }
@@ -80,11 +68,7 @@ impl Stage {
     pub fn is_busy(self) -> bool
         ensures { result ≡ busy self }
     {
-        match self {
-            Stage::Idle => false,
-            Stage::Fetching => true,
-            Stage::Working(_) => true,
-        }
+        matches!(self, Stage::Fetching | Stage::Working(_))
     }
 }
 
@@ -95,24 +79,21 @@ impl Client {
     pub const LAST_LIFE: u16 = 65_535;
 
     // With no operation.
+    #[tactic(auto, unfolding(crate::specs::Client::idle))]
     pub(crate) fn idle(life: u16, used: Request) -> Client
         ensures { result ≡ idle life used }
     {
-        let change = Change::blank();
-        let page = Page::blank();
-        let layout = Layout::blank();
-        let plan = layout;
         Client {
             life,
             used,
             begun: Request(0),
             stage: Stage::Idle,
             work: Work::Append,
-            change,
+            change: Change::blank(),
             position: Position(0),
-            page,
-            layout,
-            plan,
+            page: Page::blank(),
+            layout: Layout::blank(),
+            plan: Layout::blank(),
         }
     }
 
@@ -126,53 +107,33 @@ impl Client {
     pub(crate) fn in_phase(self, phase: Phase) -> Client
         ensures { result ≡ in_phase self phase }
     {
-        let used = self.used;
-        let begun = self.begun;
-        let work = self.work;
-        let change = self.change;
-        let position = self.position;
-        let page = self.page;
-        let layout = self.layout;
-        let plan = self.plan;
         Client {
-            life: self.life,
-            used,
-            begun,
             stage: Stage::Working(phase),
-            work,
-            change,
-            position,
-            page,
-            layout,
-            plan,
+            ..self
         }
     }
 
-    pub(crate) fn at_position(mut self, position: Position) -> Client
+    pub(crate) fn at_position(self, position: Position) -> Client
         ensures { result ≡ at_position self position }
     {
-        self.position = position;
-        self
+        Client { position, ..self }
     }
 
-    pub(crate) fn carrying(mut self, page: Page) -> Client
+    pub(crate) fn carrying(self, page: Page) -> Client
         ensures { result ≡ carrying self page }
     {
-        self.page = page;
-        self
+        Client { page, ..self }
     }
 
-    pub(crate) fn holding(mut self, layout: Layout) -> Client
+    pub(crate) fn holding(self, layout: Layout) -> Client
         ensures { result ≡ holding self layout }
     {
-        self.layout = layout;
-        self
+        Client { layout, ..self }
     }
 
-    pub(crate) fn planning(mut self, plan: Layout) -> Client
+    pub(crate) fn planning(self, plan: Layout) -> Client
         ensures { result ≡ planning self plan }
     {
-        self.plan = plan;
-        self
+        Client { plan, ..self }
     }
 }

@@ -1,110 +1,122 @@
 // An answer comes to a client: what it does next.
 ghost use Rattle.std.specs.Prelude.{◌≡◌};
-ghost use Rattle.client.specs.Take.{goes_on, on_fetched, works_on, answered, awaited, takes};
+ghost use Rattle.client.specs.Turn.{turn_in};
+ghost use Rattle.client.specs.Message.{number_of};
+ghost use Rattle.client.specs.Take.{goes_on, on_fetched, worked, works_on, answered, awaited, takes};
+ghost use Rattle.client.specs.InsideTake.{refused};
 
-use crate::append::{on_token, on_written};
-use crate::fill::{on_filled, on_looked};
-use crate::message::number_of;
-use crate::read::on_read;
-use crate::reorganise::{on_offered, on_sealed, on_started, reorganises};
-use crate::request::asks;
-use crate::trim::{on_pruned, on_trimmed, prunes_on};
-use crate::turn::{Turn, ends, otherwise, rests};
+use crate::append::{draws, not_written, writes_at, writes_on};
+use crate::fill::{fills, fills_on, not_filled, page_carried};
+use crate::read::{page_taken, reads};
+use crate::reorganise::{edges_taken, reorganises, starts};
+use crate::trim::{prunes_on, trims, trims_on};
+use crate::turn::{Turn, done, ends, otherwise, rests};
 use crate::way::{head_for, tail_for};
 use crate::{Client, Page, Phase, Reply, Response, Stage, Stamp, Work};
 use layout::Layout;
 use layout::good::is_good;
-use num::answer::Answer;
+use num::refusal::Refusal;
 
 // The first request after the fetch.
-pub(crate) fn goes_on(work: Work, c: Client) -> Turn
-    ensures { result ≡ goes_on work c }
+fn goes_on(work: Work, c: Client) -> Turn
+    ensures { turn_in result ≡ goes_on work c }
 {
     match work {
-        Work::Append => return asks(c, 0, Phase::Drawing(1)),
-        Work::Read(_) => {
-            let tail = tail_for(c);
-            return asks(c, tail, Phase::Reading(tail));
-        }
-        Work::Fill(_) => {
-            let head = head_for(c);
-            return asks(c, head, Phase::Filling(head));
-        }
-        Work::Trim(_) => {
-            let head = head_for(c);
-            return asks(c, head, Phase::Trimming(head));
-        }
-        Work::Prune(_) => return prunes_on(c, 0),
-        Work::Reorganise => return reorganises(c),
+        Work::Append => draws(c, 1),
+        Work::Read(_) => reads(c, tail_for(c)),
+        Work::Fill(_) => fills(c, head_for(c)),
+        Work::Trim(_) => trims(c, head_for(c)),
+        Work::Prune(_) => prunes_on(c, 0),
+        Work::Reorganise => reorganises(c),
     }
 }
 
 // The layout is fetched; one that is not good ends the operation.
-pub(crate) fn on_fetched(c: Client, reply: Reply, held: Layout) -> Turn
-    ensures { result ≡ on_fetched c reply held }
+#[tactic(auto, unfolding(crate::specs::Take::holds))]
+fn on_fetched(c: Client, reply: Reply, held: Layout) -> Turn
+    ensures { turn_in result ≡ on_fetched c reply held }
 {
-    let Reply::Held = reply else {
-        return otherwise(c, number_of(reply));
-    };
-    if is_good(held) {
-        let work = c.work;
-        return goes_on(work, c.holding(held));
+    match reply {
+        Reply::Held if is_good(held) => goes_on(c.work, c.holding(held)),
+        Reply::Held => ends(c, Refusal::Layout),
+        _ => otherwise(c, reply),
     }
-    ends(c, Answer::LAYOUT)
 }
 
-// The answer that a phase waits for. Under a layout that is not good the operation ends, whatever is answered.
-pub(crate) fn works_on(phase: Phase, c: Client, reply: Reply, page: Page) -> Turn
-    ensures { result ≡ works_on phase c reply page }
+// Where the phase is refused what it asked: some refusals do not end the operation, or not with their own number.
+#[tactic(auto, unfolding(crate::specs::Append::not_written, crate::specs::Append::not_at_head, crate::specs::Append::not_later, crate::specs::Fill::not_filled, crate::specs::Reorganise::not_started, crate::specs::Turn::otherwise, crate::specs::Message::no_refusal))]
+fn refused(phase: Phase, c: Client, reply: Reply) -> Turn
+    ensures { turn_in result ≡ refused phase c (number_of reply) }
 {
-    let fetched = c.layout;
-    if !is_good(fetched) {
-        return ends(c, Answer::LAYOUT);
+    let Some(refusal) = reply.refusal() else {
+        return rests(c);
+    };
+    match (phase, refusal) {
+        (Phase::Writing(unit, n), _) => not_written(c, unit, n, refusal),
+        (Phase::Filling(unit), Refusal::Written) => not_filled(c, unit),
+        (Phase::Starting, Refusal::Sealed) => ends(c, Refusal::Overtaken),
+        _ => ends(c, refusal),
     }
-    match phase {
-        Phase::Drawing(n) => return on_token(c, n, reply),
-        Phase::Writing(unit, n) => return on_written(c, unit, n, reply),
-        Phase::Reading(_) => return on_read(c, reply, page),
-        Phase::Filling(unit) => return on_filled(c, unit, reply),
-        Phase::Looking(unit) => return on_looked(c, unit, reply, page),
-        Phase::Trimming(unit) => return on_trimmed(c, unit, reply),
-        Phase::Pruning(unit) => return on_pruned(c, unit, reply),
-        Phase::Sealing(unit, edges) => return on_sealed(c, unit, edges, reply),
-        Phase::Offering(start) => return on_offered(c, start, reply),
-        Phase::Starting => return on_started(c, reply),
+}
+
+// The answer that a phase waits for; any other refuses, or answers nothing.
+fn worked(phase: Phase, c: Client, reply: Reply, page: Page) -> Turn
+    ensures { turn_in result ≡ worked phase c reply page }
+{
+    match (phase, reply) {
+        (Phase::Drawing(n), Reply::Given(p)) => writes_at(c, n, p),
+        (Phase::Writing(unit, n), Reply::Fine) => writes_on(c, unit, n),
+        (Phase::Reading(_), Reply::Shown) => page_taken(c, page),
+        (Phase::Filling(unit), Reply::Fine) => fills_on(c, unit),
+        (Phase::Looking(unit), Reply::Shown) => page_carried(c, unit, page),
+        (Phase::Trimming(unit), Reply::Fine) => trims_on(c, unit),
+        (Phase::Pruning(unit), Reply::Fine) => prunes_on(c, unit),
+        (Phase::Sealing(unit, edges), Reply::Edged(told)) => edges_taken(c, unit, edges, told),
+        (Phase::Offering(first), Reply::Fine) => starts(c, first),
+        (Phase::Starting, Reply::Fine) => done(c, Page::blank()),
+        _ => refused(phase, c, reply),
+    }
+}
+
+// Under a layout that is not good the operation ends, whatever is answered.
+#[tactic(auto, unfolding(crate::specs::Take::works_on))]
+fn works_on(phase: Phase, c: Client, reply: Reply, page: Page) -> Turn
+    ensures { turn_in result ≡ works_on phase c reply page }
+{
+    if is_good(c.layout) {
+        worked(phase, c, reply, page)
+    } else {
+        ends(c, Refusal::Layout)
     }
 }
 
 // The answer to the outstanding request.
-pub(crate) fn answered(stage: Stage, c: Client, response: Response) -> Turn
-    ensures { result ≡ answered stage c response }
+fn answered(c: Client, response: Response) -> Turn
+    ensures { turn_in result ≡ answered c.stage c response }
 {
-    let reply = response.reply;
-    let page = response.page;
-    let held = response.layout;
-    match stage {
-        Stage::Idle => return rests(c),
-        Stage::Fetching => return on_fetched(c, reply, held),
-        Stage::Working(phase) => return works_on(phase, c, reply, page),
+    match c.stage {
+        Stage::Idle => rests(c),
+        Stage::Fetching => on_fetched(c, response.reply, response.layout),
+        Stage::Working(phase) => works_on(phase, c, response.reply, response.page),
     }
 }
 
 // Is it the answer to this client's outstanding request?
+#[tactic(auto, unfolding(crate::specs::Take::awaited))]
 pub fn is_awaited(me: u8, c: Client, stamp: Stamp) -> bool
     ensures { result ≡ awaited me c stamp }
 {
-    let number = stamp.number;
-    let used = c.used;
-    (stamp.client == me) & (stamp.life == c.life) & (number.0 == used.0)
+    stamp.client == me && stamp.life == c.life && stamp.number == c.used
 }
 
 // An answer to anything else is ignored.
+#[tactic(auto, unfolding(crate::specs::Take::takes))]
 pub fn take(me: u8, c: Client, stamp: Stamp, response: Response) -> Turn
-    ensures { result ≡ takes me c stamp response }
+    ensures { turn_in result ≡ takes me c stamp response }
 {
     if is_awaited(me, c, stamp) {
-        let stage = c.stage;
-        return answered(stage, c, response);
+        answered(c, response)
+    } else {
+        rests(c)
     }
-    rests(c)
 }

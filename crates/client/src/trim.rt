@@ -1,38 +1,51 @@
 // Trim: head to tail. Prune: every unit of the layout in rising number.
 ghost use Rattle.std.specs.Prelude.{◌≡◌};
-ghost use Rattle.client.specs.Trim.{on_trimmed, prunes_on, on_pruned};
+ghost use Rattle.client.specs.Turn.{turn_in};
+ghost use Rattle.client.specs.Trim.{trims, trims_on, prunes, prunes_on};
 
-use crate::message::number_of;
-use crate::request::asks_next;
-use crate::turn::{Turn, otherwise};
-use crate::way::{after_for, unit_above};
-use crate::{Client, Phase, Reply};
+use crate::turn::{Turn, done, sends};
+use crate::way::after_for;
+use crate::{Ask, Client, Page, Phase, Query, UnitAsk};
+use layout::place::next_unit;
+
+pub(crate) fn trims(c: Client, unit: u8) -> Turn
+    ensures { turn_in result ≡ trims c unit }
+{
+    let ask = UnitAsk::Trim(c.layout.epoch, c.position);
+    sends(
+        c.in_phase(Phase::Trimming(unit)),
+        Query::plain(Ask::Unit(unit, ask)),
+    )
+}
 
 // Head to tail.
-pub(crate) fn on_trimmed(c: Client, unit: u8, reply: Reply) -> Turn
-    ensures { result ≡ on_trimmed c unit reply }
+#[tactic(auto, unfolding(crate::specs::Trim::trims_on))]
+pub(crate) fn trims_on(c: Client, unit: u8) -> Turn
+    ensures { turn_in result ≡ trims_on c unit }
 {
-    let Reply::Fine = reply else {
-        return otherwise(c, number_of(reply));
-    };
-    let next = after_for(c, unit);
-    asks_next(c, next, Phase::Trimming(next))
+    match after_for(c, unit) {
+        None => done(c, Page::blank()),
+        Some(next) => trims(c, next),
+    }
+}
+
+fn prunes(c: Client, unit: u8) -> Turn
+    ensures { turn_in result ≡ prunes c unit }
+{
+    let ask = UnitAsk::Prune(c.layout.epoch, c.position);
+    sends(
+        c.in_phase(Phase::Pruning(unit)),
+        Query::plain(Ask::Unit(unit, ask)),
+    )
 }
 
 // Every unit in rising number: after 0 the first.
+#[tactic(auto, unfolding(crate::specs::Trim::prunes_on))]
 pub(crate) fn prunes_on(c: Client, unit: u8) -> Turn
-    ensures { result ≡ prunes_on c unit }
+    ensures { turn_in result ≡ prunes_on c unit }
 {
-    let held = c.layout;
-    let next = unit_above(held, unit);
-    asks_next(c, next, Phase::Pruning(next))
-}
-
-pub(crate) fn on_pruned(c: Client, unit: u8, reply: Reply) -> Turn
-    ensures { result ≡ on_pruned c unit reply }
-{
-    let Reply::Fine = reply else {
-        return otherwise(c, number_of(reply));
-    };
-    prunes_on(c, unit)
+    match next_unit(c.layout, unit) {
+        None => done(c, Page::blank()),
+        Some(next) => prunes(c, next),
+    }
 }

@@ -1,137 +1,110 @@
 // What comes of a step at a client: it rests, a request is sent, or its operation ends.
 ghost use Rattle.std.specs.Prelude.{◌≡◌};
-ghost use Rattle.client.specs.Turn.{no_outcome, sent_so_far, outcome_of, rests, over, ends, numbered, sends, otherwise};
+ghost use Rattle.num.specs.Refusals.{number};
+ghost use Rattle.client.specs.Message.{number_of};
+ghost use Rattle.client.specs.Turn.{turn_in, no_outcome, sent_so_far, outcome_of, rests, over, ends, sends, otherwise};
 
-use crate::message::is_no_refusal;
-use crate::{Act, Client, Outcome, Page, Query, Work};
-use num::answer::Answer;
+use crate::{Act, Client, Outcome, Page, Query, Reply, Work};
+use num::refusal::Refusal;
 use num::{Epoch, Position, Request};
 
-// The client afterwards; the request where one is sent, and the outcome where the operation ends.
+// The client afterwards, and what it does.
 #[derive(Clone, Copy)]
 pub struct Turn {
     pub client: Client,
     pub act: Act,
-    pub query: Query,
-    pub outcome: Outcome,
 }
 
 impl Outcome {
     pub fn blank() -> Outcome
         ensures { result ≡ no_outcome }
     {
-        let page = Page::blank();
         Outcome {
             number: 0,
             position: Position(0),
             epoch: Epoch(0),
-            page,
+            page: Page::blank(),
             work: Work::Append,
             sent: 0,
         }
     }
 
-    pub(crate) fn of(client: Client, number: u8, page: Page) -> Outcome
+    fn of(client: Client, number: u8, page: Page) -> Outcome
         ensures { result ≡ outcome_of client number page }
     {
-        let position = client.position;
-        let layout = client.layout;
-        let epoch = layout.epoch;
-        let work = client.work;
-        let sent = sent_so_far(client);
         Outcome {
             number,
-            position,
-            epoch,
+            position: client.position,
+            epoch: client.layout.epoch,
             page,
-            work,
-            sent,
+            work: client.work,
+            sent: sent_so_far(client),
         }
     }
 }
 
 // The requests sent since the operation began: each has used one number, and one that had none left has used none.
-pub(crate) fn sent_so_far(client: Client) -> u32
+fn sent_so_far(client: Client) -> u32
     ensures { result ≡ sent_so_far client }
 {
-    let used = client.used;
-    let begun = client.begun;
-    if used.0 < begun.0 {
-        return 0;
-    }
-    used.0 - begun.0
+    client.used.0.saturating_sub(client.begun.0)
 }
 
 // Nothing happens: the answer was to something else, or to nothing.
 pub(crate) fn rests(client: Client) -> Turn
-    ensures { result ≡ rests client }
+    ensures { turn_in result ≡ rests client }
 {
-    let query = Query::blank();
-    let outcome = Outcome::blank();
     Turn {
         client,
         act: Act::Rests,
-        query,
-        outcome,
     }
 }
 
 // The operation is over, with a number and a page.
-pub(crate) fn over(client: Client, number: u8, page: Page) -> Turn
-    ensures { result ≡ over client number page }
+fn over(client: Client, number: u8, page: Page) -> Turn
+    ensures { turn_in result ≡ over client number page }
 {
-    let outcome = Outcome::of(client, number, page);
-    let used = client.used;
-    let idle = Client::idle(client.life, used);
-    let query = Query::blank();
     Turn {
-        client: idle,
-        act: Act::Ends,
-        query,
-        outcome,
+        client: Client::idle(client.life, client.used),
+        act: Act::Ends(Outcome::of(client, number, page)),
     }
 }
 
-pub(crate) fn ends(client: Client, number: u8) -> Turn
-    ensures { result ≡ ends client number }
+// It is done, and was shown a page or none.
+pub(crate) fn done(client: Client, page: Page) -> Turn
+    ensures { turn_in result ≡ over client 0 page }
 {
-    over(client, number, Page::blank())
+    over(client, 0, page)
 }
 
-// The client with its numbers used up to this one.
-pub(crate) fn numbered(client: Client, number: Request) -> Client
-    ensures { result ≡ numbered client number }
+pub(crate) fn ends(client: Client, refusal: Refusal) -> Turn
+    ensures { turn_in result ≡ ends client (number refusal) }
 {
-    let mut c = client;
-    c.used = number;
-    c
+    over(client, refusal.number(), Page::blank())
 }
 
 // A request goes out under the next number; with none left the operation ends with 19.
+#[tactic(auto, unfolding(crate::specs::Turn::sends))]
 pub(crate) fn sends(client: Client, query: Query) -> Turn
-    ensures { result ≡ sends client query }
+    ensures { turn_in result ≡ sends client query }
 {
-    let used = client.used;
-    if Request::LAST <= used.0 {
-        return ends(client, Answer::NUMBERS_SPENT);
+    if Request::LAST <= client.used.0 {
+        return ends(client, Refusal::NumbersSpent);
     }
-    let number = Request(used.0 + 1);
-    let sender = numbered(client, number);
-    let outcome = Outcome::blank();
+    let used = Request(client.used.0 + 1);
     Turn {
-        client: sender,
-        act: Act::Sends(number),
-        query,
-        outcome,
+        client: Client { used, ..client },
+        act: Act::Sends(used, query),
     }
 }
 
-// Any other answer ends the operation with its number; one that has none, or one that no machine gives, never answers what was asked.
-pub(crate) fn otherwise(client: Client, number: u8) -> Turn
-    ensures { result ≡ otherwise client number }
+// A machine's refusal ends the operation; any other answer never answers what was asked.
+#[tactic(auto, unfolding(crate::specs::Turn::otherwise))]
+pub(crate) fn otherwise(client: Client, reply: Reply) -> Turn
+    ensures { turn_in result ≡ otherwise client (number_of reply) }
 {
-    if is_no_refusal(number) {
-        return rests(client);
+    match reply.refusal() {
+        Some(refusal) => ends(client, refusal),
+        None => rests(client),
     }
-    ends(client, number)
 }

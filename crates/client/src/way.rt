@@ -1,76 +1,51 @@
 // The way of an operation through the layout that it fetched.
-ghost use Rattle.std.specs.Prelude.{◌≡◌, take};
-ghost use Rattle.layout.specs.Plan.{planned_for};
-ghost use Rattle.client.specs.Way.{head_for, tail_for, after_for, unit_above, plan_for, start_for};
+ghost use Rattle.std.specs.Prelude.{◌≡◌};
+ghost use Rattle.layout.specs.Plan.{planned_in};
+ghost use Rattle.layout.specs.Places.{or_zero, FromOne};
+ghost use Rattle.client.specs.Way.{head_for, tail_for, after_for, drops_of, plan_for};
 
 use crate::{Change, Client};
-use layout::place::{head_at, next_unit, tail_at, unit_after};
-use layout::plan::{Planned, Started, plan, with_start};
-use layout::{Layout, Wish};
-use num::Edges;
-use num::bytes::size;
+use layout::Layout;
+use layout::place::{head_at, tail_at, unit_after};
+use layout::plan::plan;
+use num::refusal::Refusal;
 
-// The head of the set of the position under way.
+// The head of the set of the position under way; 0 where there is none.
 pub(crate) fn head_for(c: Client) -> u8
     ensures { result ≡ head_for c }
 {
-    let held = c.layout;
-    let p = c.position;
-    head_at(held, p)
+    head_at(c.layout, c.position).unwrap_or(0)
 }
 
 // Its tail.
 pub(crate) fn tail_for(c: Client) -> u8
     ensures { result ≡ tail_for c }
 {
-    let held = c.layout;
-    let p = c.position;
-    tail_at(held, p)
+    tail_at(c.layout, c.position).unwrap_or(0)
 }
 
-// The unit after `unit` in it; 0 after the tail.
-pub(crate) fn after_for(c: Client, unit: u8) -> u8
-    ensures { result ≡ after_for c unit }
+// The unit after `unit` in it.
+pub(crate) fn after_for(c: Client, unit: u8) -> Option<u8>
+    ensures unit { or_zero result ≡ after_for c unit }
+    ensures from_one { FromOne result }
 {
-    let held = c.layout;
-    let p = c.position;
-    unit_after(held, p, unit)
+    unit_after(c.layout, c.position, unit)
 }
 
-// The next unit of a layout, in rising number; 0 after the last.
-pub(crate) fn unit_above(l: Layout, unit: u8) -> u8
-    ensures { result ≡ unit_above l unit }
-{
-    next_unit(l, unit)
-}
-
-// The plan with the first `count` units to drop.
-fn plan_dropping(held: Layout, drops: [u8; Change::DROPS], count: u8, wish: Wish) -> Planned
-    ensures { result ≡ planned_for held (take count drops) wish }
-{
-    let n = size(count);
-    if n < Change::DROPS {
-        plan(held, &drops[..n], wish)
-    } else {
-        plan(held, &drops[..], wish)
+impl Change {
+    // The units to drop.
+    fn drops(&self) -> &[u8]
+        ensures { result.now ≡ drops_of self.now }
+    {
+        let n = usize::from(self.count).min(Change::DROPS);
+        &self.drops[..n]
     }
 }
 
-// 15, 10, 13 or 14; or 0 and the new layout, but for its new range's start.
-pub(crate) fn plan_for(c: Client) -> Planned
-    ensures { result ≡ plan_for c }
+// The new layout, but for its new range's start; or 15, 10, 13 or 14.
+pub(crate) fn plan_for(c: Client) -> Result<Layout, Refusal>
+    ensures { planned_in result ≡ plan_for c }
 {
-    let held = c.layout;
     let change = c.change;
-    let drops = change.drops;
-    let wish = change.wish;
-    plan_dropping(held, drops, change.count, wish)
-}
-
-// 9; or 0, the new layout whole, and where the sequencer is started.
-pub(crate) fn start_for(c: Client, edges: Edges) -> Started
-    ensures { result ≡ start_for c edges }
-{
-    let planned = c.plan;
-    with_start(planned, edges)
+    plan(c.layout, change.drops(), change.wish)
 }

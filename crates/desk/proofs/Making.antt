@@ -4,7 +4,12 @@ use mathlib.Core.Bool.{Bool, true, false, ◌||◌, not, cond}
 use mathlib.Core.List.{List}
 use mathlib.Core.Path.{◌≡◌, refl, sym, ap, ◌∙◌}
 use native.Mathlib.Omega.{arith}
-use borrow.Author.Tests.{eqb-true, eqb-false}
+use borrow.Author.Tests.{eqb-true, eqb-false, ne_eqb}
+use Rattle.std.specs.Prelude.{Result}
+use Rattle.num.specs.declared.refusal.Refusal.{Refusal}
+use Rattle.num.specs.Refusals.{number, answered, given}
+use Rattle.num.proofs.Refusals.{number_above}
+use Rattle.layout.specs.declared.plan.Started.{Started}
 use lib.Dec.{eqb}
 use lib.ListN.{length}
 use lib.Seq.{sets}
@@ -12,19 +17,17 @@ use Rattle.num.specs.declared.Edges.{Edges}
 use Rattle.num.proofs.Tests.{cond_zero}
 use Rattle.layout.specs.declared.Layout.{Layout}
 use Rattle.layout.specs.declared.Wish.{Wish}
-use Rattle.layout.specs.declared.plan.Planned.{Planned}
-use Rattle.layout.specs.declared.plan.Started.{Started}
 use Rattle.layout.specs.Lay.{good}
 use Rattle.layout.specs.Value.{lay_of, blank, good_value}
 use Rattle.layout.specs.Codec.{sets_said, wish_said, bytes_of, write_refused, write_answer, LayoutWritten}
-use Rattle.layout.specs.Plan.{bad_drops, planned_for, ends_open, started_at, reorganise_answer}
+use Rattle.layout.specs.Plan.{StartAnswer, Planned, bad_drops, planned_for, ends_open, not_started, started_in, started_at, reorganise_answer}
 use Rattle.layout.proofs.GoodLay.{good_says}
 use Rattle.layout.proofs.ValueOf.{value_of_good}
 use Rattle.layout.proofs.ReorganiseAnswer.{reorganise_fine}
 use Rattle.layout.proofs.StartedAt.{started_same}
 use Rattle.layout.proofs.StartedPlan.{started_plan, plan_started}
 use Rattle.desk.specs.Told.{fine_sets, plan_refusal, made_answer, new_layout, plan_told}
-use Rattle.desk.specs.InsideMade.{empty_wish, IsMade}
+use Rattle.desk.specs.InsideMade.{empty_wish, IsMade, IsDone}
 use Rattle.desk.proofs.Wishes.{wish_answers, wish_news}
 
 -- the edges that the units are said to have told: the written one is not asked for, since no layout depends on it
@@ -33,7 +36,7 @@ said edge = record { edge = record { 0 = edge }; written = record { 0 = 0 } }
 
 blank_started : (edges : Edges) → (started_at blank edges).layout ≡ blank
 unfolding ends_open lay_of
-blank_started edges = ap (λ (s : Started). s.layout) (sym (started_same blank edges refl))
+blank_started edges = ap (λ (s : StartAnswer). s.layout) (sym (started_same blank edges refl))
 
 module _ (held : Layout) (drops new : List ℕ) (edge : ℕ) (w : Wish) (ew : w ≡ cond (bad_drops drops (sets_said new) || not (fine_sets new)) empty_wish (wish_said new)) where
   answers : reorganise_answer held drops w ≡ plan_refusal held drops new
@@ -53,7 +56,7 @@ module _ (held : Layout) (drops new : List ℕ) (edge : ℕ) (w : Wish) (ew : w 
   unfolding planned_for
   refused_started z = rw (answers, z) (blank_started (said edge))
 
-  module _ (p : Planned) (s : Started) (answer : ℕ) (ep : p ≡ planned_for held drops w) (es : s ≡ started_at p.layout (said edge)) (ea : answer ≡ cond (eqb p.answer 0) s.answer p.answer) where
+  module _ (p : Planned) (s : StartAnswer) (answer : ℕ) (ep : p ≡ planned_for held drops w) (es : s ≡ started_at p.layout (said edge)) (ea : answer ≡ cond (eqb p.answer 0) s.answer p.answer) where
     plan_answer_lem : p.answer ≡ plan_refusal held drops new
     unfolding planned_for
     plan_answer_lem = ap (λ (q : Planned). q.answer) ep ∙ answers
@@ -69,22 +72,28 @@ module _ (held : Layout) (drops new : List ℕ) (edge : ℕ) (w : Wish) (ew : w 
         go true e =
             let st : s ≡ started_plan (lay_of held) drops (sets_said new) (said edge) = started_as ∙ fine_started (eqb-true _ _ e) in
             record {
-              answer_is = ea ∙ rw (plan_answer_lem, e) (ap (λ (q : Started). q.answer) st);
-              layout_is = rw e (ap (λ (q : Started). q.layout) st);
+              answer_is = ea ∙ rw (plan_answer_lem, e) (ap (λ (q : StartAnswer). q.answer) st);
+              layout_is = rw e (ap (λ (q : StartAnswer). q.layout) st);
             }
         go false e =
             record {
               answer_is = ea ∙ rw (plan_answer_lem, e);
-              layout_is = rw (e, e) (ap (λ (q : Started). q.layout) started_as ∙ refused_started e);
+              layout_is = rw (e, e) (ap (λ (q : StartAnswer). q.layout) started_as ∙ refused_started e);
             }
 
--- ---- its bytes
+  -- the plan is refused
+  pub made_refused : (r : Refusal) → record { answer = number r; layout = blank } ≡ planned_for held drops w → IsMade held drops new edge (number r) blank
+  made_refused r ep =
+      let above : eqb (number r) 0 ≡ false = ne_eqb (number r) 0 (number_above r) in
+      let made = make_told (record { answer = number r; layout = blank }) (started_at blank (said edge)) (number r) ep refl (sym (rw above)) in
+      rw blank_started at made
 
--- what is answered, what is in the buffer, and how many bytes were written where it is fine
-pub record Done (held : Layout) (drops new : List ℕ) (edge : ℕ) (out : List ℕ) (answer count : ℕ) (after : List ℕ) : Type 0 where
-  pub answer_is : answer ≡ plan_told held drops new edge out
-  pub out_is : after ≡ cond (eqb (plan_told held drops new edge out) 0) (sets out 0 (bytes_of (new_layout held drops new edge))) out
-  pub count_is : answer ≡ 0 → count ≡ length (bytes_of (new_layout held drops new edge))
+  -- its start is found, or refused
+  pub made_started : (l : Layout) (r : Result Started Refusal) → record { answer = 0; layout = l } ≡ planned_for held drops w → started_in r ≡ started_at l (said edge)
+      → IsMade held drops new edge (answered r) (given not_started r).layout
+  made_started l r ep es = make_told (record { answer = 0; layout = l }) (started_in r) (answered r) ep es refl
+
+-- ---- its bytes
 
 out_swap : (t : Bool) (x y : List ℕ) → cond t y x ≡ cond (eqb (cond t 10 0) 0) x y
 out_swap true x y = refl
@@ -97,12 +106,15 @@ blank_refused : (out : List ℕ) → write_refused blank out ≡ true
 unfolding write_refused good_value good lay_of
 blank_refused out = refl
 
+blank_written : (out : List ℕ) → LayoutWritten blank out 10 0 out
+blank_written out = let no = blank_refused out in record { answer_is = sym (rw no); count_is = sym (rw no); buffer_is = sym (rw no) }
+
 module _ (l held : Layout) (drops new : List ℕ) (edge : ℕ) (out : List ℕ) (a wa wn answer : ℕ) (layout : Layout) (after : List ℕ) where
-  pub done : l ≡ held → IsMade l drops new edge a layout → LayoutWritten layout out wa wn after → answer ≡ cond (eqb a 0) wa a → Done held drops new edge out answer wn after
+  pub done : l ≡ held → IsMade l drops new edge a layout → LayoutWritten layout out wa wn after → answer ≡ cond (eqb a 0) wa a → IsDone held drops new edge out answer wn after
   unfolding plan_told
   done el made w ea = go (rw el at made) (eqb (made_answer held drops new edge) 0) refl
     where
-      go : IsMade held drops new edge a layout → (t : Bool) → eqb (made_answer held drops new edge) 0 ≡ t → Done held drops new edge out answer wn after
+      go : IsMade held drops new edge a layout → (t : Bool) → eqb (made_answer held drops new edge) 0 ≡ t → IsDone held drops new edge out answer wn after
       go m true e =
           let is_new : layout ≡ new_layout held drops new edge = rw e at m.layout_is in
           let an : answer ≡ write_answer (new_layout held drops new edge) out = ea ∙ rw (m.answer_is, e) (rw is_new at w.answer_is) in
@@ -120,3 +132,12 @@ module _ (l held : Layout) (drops new : List ℕ) (edge : ℕ) (out : List ℕ) 
             out_is = rw (e, e) (rw (none, blank_refused out) at w.buffer_is);
             count_is = λ z. absurd (eqb-false _ _ e (sym an ∙ z));
           }
+
+module _ {l held : Layout} {drops new : List ℕ} {edge : ℕ} {out : List ℕ} (el : l ≡ held) where
+  pub not_made : (r : Refusal) → IsMade l drops new edge (number r) blank → IsDone held drops new edge out (number r) 0 out
+  not_made r made =
+      let above : eqb (number r) 0 ≡ false = ne_eqb (number r) 0 (number_above r) in
+      done l held drops new edge out (number r) 10 0 (number r) blank out el made (blank_written out) (sym (rw above))
+
+  pub put : {n : Layout} {a k : ℕ} {after : List ℕ} → IsMade l drops new edge 0 n → LayoutWritten n out a k after → IsDone held drops new edge out a k after
+  put {n} {a} {k} {after} made w = done l held drops new edge out 0 a k a n after el made w refl

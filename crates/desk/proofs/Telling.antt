@@ -4,11 +4,9 @@ use mathlib.Core.Bool.{cond}
 use mathlib.Core.Path.{◌≡◌, sym, ap, ◌∙◌}
 use lib.Dec.{eqb}
 use Rattle.layout.specs.declared.Layout.{Layout}
-use Rattle.layout.specs.declared.place.Placed.{Placed}
-use Rattle.layout.specs.declared.holder.Offered.{Offered}
 use Rattle.layout.specs.Value.{lay_of}
-use Rattle.layout.specs.Places.{place_answer, placed_at, set_number}
-use Rattle.layout.specs.Holder.{offer_answer, offered_to}
+use Rattle.layout.specs.Places.{Placed, place_answer, placed_at, set_number}
+use Rattle.layout.specs.Holder.{Offered, offer_answer, offered_to}
 
 -- ---- a position's set
 

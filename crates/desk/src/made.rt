@@ -1,5 +1,7 @@
 // What a reorganise makes of a layout, its new sets as bytes: up to 255, though no more than 15 can be had.
 ghost use Rattle.std.specs.Prelude.{◌≡◌, cond, ◌||◌, not};
+ghost use Rattle.num.specs.Refusals.{answered, given};
+ghost use Rattle.layout.specs.Value.{blank};
 ghost use Rattle.layout.specs.Codec.{sets_said, wish_said};
 ghost use Rattle.layout.specs.Plan.{bad_drops};
 ghost use Rattle.desk.specs.Told.{fine_sets};
@@ -7,36 +9,22 @@ ghost use Rattle.desk.specs.InsideMade.{named_sets, empty_wish, IsMade};
 
 use layout::new_sets::{are_sets, sets_name, wish_of};
 use layout::plan::{plan, with_start};
-use layout::{Chain, Layout, Wish};
-use num::answer::{Answer, pick};
+use layout::{Layout, Wish};
+use num::refusal::Refusal;
 use num::{Edges, Position};
-
-// The new layout; a blank one where it is refused.
-#[derive(Clone, Copy)]
-pub(crate) struct Made {
-    pub(crate) answer: u8,
-    pub(crate) layout: Layout,
-}
 
 // Whether a unit to drop is outside 1 to 8, or also named in a new set.
 fn drops_are_bad(drops: &[u8], sets: &[u8]) -> bool
     ensures { result ≡ bad_drops drops.now (named_sets sets.now) }
 {
-    let mut bad = false;
-    let mut i = 0;
-    while i < drops.len() {
-        let u = drops[i];
-        bad = bad | (!((1 <= u) & (u <= Layout::LAST_UNIT)) | sets_name(sets, u));
-        i += 1;
-    }
-    bad
+    drops.iter().any(|u| !(1 <= *u && *u <= Layout::LAST_UNIT) || sets_name(sets, *u))
 }
 
 // Whether the drops are bad, or the new sets not good.
 fn are_bad(drops: &[u8], sets: &[u8]) -> bool
     ensures { result ≡ (bad_drops drops.now (sets_said sets.now) || not (fine_sets sets.now)) }
 {
-    drops_are_bad(drops, sets) | !((sets.len() == 0) | are_sets(sets))
+    drops_are_bad(drops, sets) | !(sets.is_empty() | are_sets(sets))
 }
 
 // The first 16 new sets. An empty set, which no plan takes, stands for what is bad, also behind the 16th.
@@ -46,10 +34,7 @@ fn wish_for(drops: &[u8], sets: &[u8]) -> Wish
     if are_bad(drops, sets) {
         Wish {
             count: 1,
-            sets: [Chain {
-                count: 0,
-                units: [0u8; Chain::UNITS],
-            }; Layout::SETS],
+            ..Wish::blank()
         }
     } else {
         wish_of(sets)
@@ -57,24 +42,15 @@ fn wish_for(drops: &[u8], sets: &[u8]) -> Wish
 }
 
 // The plan, its new range's start set.
-pub(crate) fn make(held: Layout, drops: &[u8], sets: &[u8], edge: u64) -> Made
-    ensures { IsMade held drops.now sets.now edge result.answer result.layout }
+pub(crate) fn make(held: Layout, drops: &[u8], sets: &[u8], edge: u64) -> Result<Layout, Refusal>
+    ensures { IsMade held drops.now sets.now edge (answered result) (given blank result) }
 {
-    let planned = plan(held, drops, wish_for(drops, sets));
-    let next = planned.layout;
+    let plan = plan(held, drops, wish_for(drops, sets))?;
     // No layout depends on the written edge.
     let edges = Edges {
         edge: Position(edge),
         written: Position(0),
     };
-    let started = with_start(next, edges);
-    let layout = started.layout;
-    Made {
-        answer: pick(
-            planned.answer == Answer::FINE,
-            started.answer,
-            planned.answer,
-        ),
-        layout,
-    }
+    let started = with_start(plan, edges)?;
+    Ok(started.layout)
 }

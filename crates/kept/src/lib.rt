@@ -1,10 +1,12 @@
 // A yard kept by value but for the memories, so that a program can hold it: its own table and sequencer are lent to each step.
 #![tactic(auto)]
 
-ghost use Rattle.kept.specs.Promises.{IsKeptStep, IsKeptMade};
+ghost use Rattle.std.specs.Prelude.{◌≡◌};
+ghost use Rattle.kept.specs.Promises.{kept_step_in, IsKeptStep, kept_made_in, IsKeptMade};
 
 use client::state::Job;
 use layout::Layout;
+use num::refusal::Refusal;
 use rule::{Letter, Step, Stepped, Yard};
 use sequencer::Sequencer;
 use yard::fresh::fresh;
@@ -17,49 +19,32 @@ pub struct Kept {
     pub table: [Letter; Yard::LETTERS],
 }
 
-// What a step answers, as `Stepped` says it, and the sequencer and the table afterwards.
-#[derive(Clone, Copy)]
-pub struct KeptStep {
-    pub stepped: Stepped,
-    pub sequencer: Sequencer,
-    pub table: [Letter; Yard::LETTERS],
-}
-
-#[derive(Clone, Copy)]
-pub struct KeptMade {
-    pub answer: u8,
-    pub kept: Kept,
-}
-
-pub fn step_kept(kept: Kept, units: &mut [u8], s: Step, job: Job) -> KeptStep
-    ensures { IsKeptStep kept units.old s job result units.new }
+// A step of what is kept.
+pub fn step_kept(kept: &mut Kept, units: &mut [u8], s: Step, job: Job) -> Stepped
+    ensures taken { IsKeptStep kept.old units.old s job (kept_step_in result kept.new) units.new }
+    ensures kept { kept.new.yard ≡ result.yard }
 {
-    let yard = kept.yard;
-    let mut seq = kept.sequencer;
-    let mut table = kept.table;
-    let stepped = step(yard, &mut seq, &mut table, units, s, job);
-    KeptStep {
-        stepped,
-        sequencer: seq,
-        table,
-    }
+    let stepped = step(
+        kept.yard,
+        &mut kept.sequencer,
+        &mut kept.table,
+        units,
+        s,
+        job,
+    );
+    kept.yard = stepped.yard;
+    stepped
 }
 
-pub fn fresh_kept(held: Layout, units: &mut [u8]) -> KeptMade
-    ensures { IsKeptMade held units.old result units.new }
+pub fn fresh_kept(held: Layout, units: &mut [u8]) -> Result<Kept, Refusal>
+    ensures { IsKeptMade held units.old (kept_made_in result) units.new }
 {
-    let mut seq = Sequencer::fresh();
-    let none = Letter::blank();
-    let mut table = [none; Yard::LETTERS];
-    let made = fresh(held, &mut seq, &mut table, units);
-    let yard = made.yard;
-    let kept = Kept {
+    let mut sequencer = Sequencer::fresh();
+    let mut table = [Letter::blank(); Yard::LETTERS];
+    let yard = fresh(held, &mut sequencer, &mut table, units)?;
+    Ok(Kept {
         yard,
-        sequencer: seq,
+        sequencer,
         table,
-    };
-    KeptMade {
-        answer: made.answer,
-        kept,
-    }
+    })
 }

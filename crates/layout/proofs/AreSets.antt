@@ -19,7 +19,7 @@ use Rattle.layout.specs.Codec.{sets_bytes, sets_at, counted, set_front, sets_sai
 use Rattle.layout.proofs.Padded.{padded_front}
 use Rattle.layout.proofs.ValueOf.{chain_tidy, good_short, sets_back}
 use Rattle.layout.proofs.Same.{same_eq, same_self}
-use Rattle.layout.proofs.SetsAt.{sets_left, sets_over, sets_length, sets_said_lem, front_sets}
+use Rattle.layout.proofs.SetsAt.{sets_left, sets_next, sets_over, sets_length, sets_said_lem, front_sets}
 
 too_long_lem : (us : List ℕ) → leb (length us) 4 ≡ false → good_set us ≡ false
 unfolding good_set
@@ -72,16 +72,19 @@ module _ (b : List ℕ) (n i past : ℕ) where
   unfolding good_sets
   good_all ok h s = sym (and-true ok) ∙ (rw (sets_over b n i past h) at s)
 
-  pub name_more : (u : ℕ) (found here : Bool) (c : Chain) (t : ℕ) → i < n → c ≡ chain_of (set_front (drop past b)) → t ≡ c.count → here ≡ (u in? units_in c)
-      → (found || in_sets u (map units_in (map chain_of (sets_at (n - i) (drop past b))))) ≡ in_sets u (map units_in (map chain_of (sets_at n (drop 1 b))))
-      → ((found || here) || in_sets u (map units_in (map chain_of (sets_at (n - (i + 1)) (drop (past + (1 + t)) b))))) ≡ in_sets u (map units_in (map chain_of (sets_at n (drop 1 b))))
-  unfolding in_sets
-  name_more u found here c t h e et eh s = rw (or_assoc, eh, e) (rw (sets_left b n i past t c h e et) at s)
+-- what is left says whether one of the n sets names the unit
+abbrev pub NameLeft : ℕ → List ℕ → ℕ → ℕ → Bool → List ℕ → Type 0
+NameLeft u b n i found rest = (found || in_sets u (map units_in (map chain_of (sets_at (n - i) rest)))) ≡ in_sets u (map units_in (map chain_of (sets_at n (drop 1 b))))
 
-  pub name_all : (u : ℕ) (found : Bool) → n ≤ i → (found || in_sets u (map units_in (map chain_of (sets_at (n - i) (drop past b))))) ≡ in_sets u (map units_in (map chain_of (sets_at n (drop 1 b))))
-      → found ≡ in_sets u (map units_in (map chain_of (sets_at n (drop 1 b))))
+module _ (u : ℕ) (b : List ℕ) (n i : ℕ) (found : Bool) (rest : List ℕ) where
+  pub name_more : (here : Bool) (c : Chain) (rest' : List ℕ) → i < n → c ≡ chain_of (set_front rest) → rest' ≡ drop (1 + c.count) rest → here ≡ (u in? units_in c)
+      → NameLeft u b n i found rest → NameLeft u b n (i + 1) (found || here) rest'
   unfolding in_sets
-  name_all u found h s = sym (or-false found) ∙ (rw (sets_over b n i past h) at s)
+  name_more here c rest' h e er eh s = rw (or_assoc, eh, e) (rw (sets_next rest rest' n i c h e er) at s)
+
+  pub name_all : n ≤ i → NameLeft u b n i found rest → found ≡ in_sets u (map units_in (map chain_of (sets_at n (drop 1 b))))
+  unfolding in_sets
+  name_all h s = sym (or-false found) ∙ (rw (sets_over rest n i 0 h) at s)
 
 -- ---- as many bytes as they are written in are their bytes
 
@@ -115,11 +118,9 @@ sets_named b u ok found e h = rw (e, h) (go (are_sets b) refl)
 
 -- ---- by value
 
-pub wish_said_lem : (b : List ℕ) (n m : ℕ) (cs : List Chain) → n ≡ get_or b 0 0 → m ≡ n → cs ≡ padded 16 no_chain (map chain_of (sets_at m (drop 1 b))) → record { count = n; sets = cs } ≡ wish_said b
+pub wish_said_lem : (b : List ℕ) (n : ℕ) (cs : List Chain) → n ≡ get_or b 0 0 → cs ≡ padded 16 no_chain (map chain_of (sets_at n (drop 1 b))) → record { count = n; sets = cs } ≡ wish_said b
 unfolding wish_said
-wish_said_lem b n m cs en em e =
-    let k : m ≡ get_or b 0 0 = em ∙ en in
-    λ i. record { count = en i; sets = (rw k at e) i }
+wish_said_lem b n cs en e = λ i. record { count = en i; sets = (rw en at e) i }
 
 -- ---- a result: new sets that are written
 

@@ -8,6 +8,7 @@ use borrow.Author.Tests.{leb-true, lt-ltb}
 use lib.Dec.{ltb, leb}
 use lib.ListN.{length, take, set, length-map, length-append}
 use lib.Seq.{sets}
+use Rattle.std.specs.Int.{from_bool}
 use Rattle.num.specs.Limits.{last_epoch}
 use Rattle.num.proofs.Tests.{and_both}
 use Rattle.layout.specs.declared.Chain.{Chain}
@@ -15,14 +16,14 @@ use Rattle.layout.specs.declared.Layout.{Layout}
 use Rattle.layout.specs.declared.Wish.{Wish}
 use Rattle.layout.specs.Lay.{Span, Lay, set_limit, sets_limit, ranges_limit, good_sets}
 use Rattle.layout.specs.Value.{chain_of, padded, no_chain, units_in, no_range, range_of, value_of, lay_of}
-use Rattle.layout.specs.Plan.{without, thinned, good_chains, new_spans, new_ranges, new_of, planned, plan_answer, good_wish}
+use Rattle.layout.specs.Plan.{reorganise_answer, without, thinned, good_chains, new_spans, new_ranges, new_of, planned, plan_answer, good_wish}
 use Rattle.layout.proofs.Take.{front_length}
 use Rattle.layout.proofs.GoodLay.{Good, good_says}
 use Rattle.layout.proofs.SetNumber.{sets_some}
 use Rattle.layout.proofs.Padded.{padded_front, padded_mapped, padded_sets}
 use Rattle.layout.proofs.ValueOf.{short, good_short, value_of_good}
 use Rattle.layout.proofs.GoodChains.{wish_chains}
-use Rattle.layout.proofs.ReorganiseAnswer.{PlanFine, checks_fine, Reorganises, new_ranges_lem}
+use Rattle.layout.proofs.ReorganiseAnswer.{PlanFine, checks_fine, reorganise_fine, new_ranges_lem}
 
 -- ---- the sets
 
@@ -60,7 +61,7 @@ plan_ranges ss n (us ∷ new) e fits =
     rw (lt-ltb 0 n (omega arith), ← e, map-append range_of ss (new_spans 0 (us ∷ new)))
     (rw k at (padded_sets ranges_limit no_range (map range_of ss) (map range_of (new_spans 0 (us ∷ new))) (omega arith)))
 
-span_count : (n : ℕ) (new : List (List ℕ)) → length new ≡ n → cond (ltb 0 n) 1 0 ≡ length (new_spans 0 new)
+span_count : (n : ℕ) (new : List (List ℕ)) → length new ≡ n → from_bool (ltb 0 n) ≡ length (new_spans 0 new)
 span_count n [] e = rw (← e)
 span_count n (us ∷ new) e = rw (lt-ltb 0 n (omega arith))
 
@@ -73,7 +74,7 @@ assembled held drops w = record {
   shape = held.shape;
   set_count = held.set_count + w.count;
   sets = sets (map (thinned drops) held.sets) held.set_count (take w.count w.sets);
-  range_count = held.range_count + cond (ltb 0 w.count) 1 0;
+  range_count = held.range_count + from_bool (ltb 0 w.count);
   ranges = cond (ltb 0 w.count) (set held.ranges held.range_count (record { start = record { 0 = 0 }; sets = w.count })) held.ranges;
 }
 
@@ -93,7 +94,7 @@ module _ (lay : Lay) (drops : List ℕ) (w : Wish) (g : Good lay) (good_wish_lem
       let k : length cs ≡ w.count = sym (length-map cs units_in) ∙ counted in
       let set_count_lem : length lay.sets + w.count ≡ length (map (without drops) lay.sets ++ new_of w)
       = omega (arith, length-append (map (without drops) lay.sets) (new_of w), length-map lay.sets (without drops), counted) in
-      let range_count_lem : length lay.spans + cond (ltb 0 w.count) 1 0 ≡ length (lay.spans ++ new_spans 0 (new_of w))
+      let range_count_lem : length lay.spans + from_bool (ltb 0 w.count) ≡ length (lay.spans ++ new_spans 0 (new_of w))
       = omega (arith, length-append lay.spans (new_spans 0 (new_of w)), span_count w.count (new_of w) counted) in
       let all_sets = plan_sets drops lay.sets cs (good_short lay.sets g.sets_good) good_wish_lem (omega (arith, counted, fits.sets_fit)) in
       let all_ranges = plan_ranges lay.spans w.count (new_of w) counted fits.spans_fit in
@@ -107,8 +108,9 @@ module _ (lay : Lay) (drops : List ℕ) (w : Wish) (g : Good lay) (good_wish_lem
       }
 
 -- where the reorganise is not refused
-pub assembled_is : (held : Layout) (drops : List ℕ) (w : Wish) → Reorganises held drops w → length w.sets ≡ sets_limit → assembled held drops w ≡ value_of (planned (lay_of held) drops (new_of w) 0)
-assembled_is held drops w r room =
+pub assembled_is : (held : Layout) (drops : List ℕ) (w : Wish) → reorganise_answer held drops w ≡ 0 → length w.sets ≡ sets_limit → assembled held drops w ≡ value_of (planned (lay_of held) drops (new_of w) 0)
+assembled_is held drops w fine room =
+    let r = reorganise_fine held drops w fine in
     let v = value_of_good held r.held_good in
     ap (λ l. assembled l drops w) v.1 ∙ assembled_lay (lay_of held) drops w (good_says (lay_of held) v.0) r.wish_good r.plan room
 
@@ -116,12 +118,13 @@ assembled_is held drops w r room =
 pub record Fitting (held : Layout) (w : Wish) : Type 0 where
   pub epoch : held.epoch.0 < last_epoch
   pub chains : held.set_count + w.count ≤ sets_limit
-  pub spans : held.range_count + cond (ltb 0 w.count) 1 0 ≤ ranges_limit
+  pub spans : held.range_count + from_bool (ltb 0 w.count) ≤ ranges_limit
   pub spare : 0 < w.count → held.range_count < ranges_limit
 
-pub fitting : (held : Layout) (drops : List ℕ) (w : Wish) → Reorganises held drops w → length w.sets ≡ sets_limit → Fitting held w
+pub fitting : (held : Layout) (drops : List ℕ) (w : Wish) → reorganise_answer held drops w ≡ 0 → length w.sets ≡ sets_limit → Fitting held w
 unfolding value_of lay_of
-fitting held drops w r room =
+fitting held drops w fine room =
+    let r = reorganise_fine held drops w fine in
     let v = value_of_good held r.held_good in
     let lay = lay_of held in
     let g = good_says lay v.0 in
@@ -129,5 +132,5 @@ fitting held drops w r room =
     let n = counted lay drops w g r.wish_good r.plan room in
     let s : held.set_count ≡ length lay.sets = ap (λ l. l.set_count) v.1 in
     let q : held.range_count ≡ length lay.spans = ap (λ l. l.range_count) v.1 in
-    let m : held.range_count + cond (ltb 0 w.count) 1 0 ≤ ranges_limit = omega (arith, f.spans_fit, new_ranges_lem w.count w.sets (omega arith)) in
+    let m : held.range_count + from_bool (ltb 0 w.count) ≤ ranges_limit = omega (arith, f.spans_fit, new_ranges_lem w.count w.sets (omega arith)) in
     record { epoch = f.epoch_left; chains = omega (arith, f.sets_fit); spans = m; spare = λ h. omega (arith, rw (lt-ltb 0 w.count h) at m) }

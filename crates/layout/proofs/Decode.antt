@@ -17,28 +17,23 @@ use Rattle.layout.specs.declared.Layout.{Layout}
 use Rattle.layout.specs.declared.Range.{Range}
 use Rattle.layout.specs.Lay.{Span, Lay, good, good_spans, units_of, in_sets, used_from}
 use Rattle.layout.specs.Value.{padded, no_chain, no_range, chain_of, range_of, value_of}
-use Rattle.layout.specs.Codec.{sets_at, past_sets, spans_at, decode, counted, sets_bytes, spans_bytes, encode, is_layout, same, span_bytes, size_limit}
+use Rattle.layout.specs.Codec.{sets_at, past_sets, spans_at, past_units, decode, counted, sets_bytes, spans_bytes, encode, is_layout, same, span_bytes, size_limit}
 use Rattle.layout.proofs.GoodLay.{Good, good_says}
 use Rattle.layout.proofs.ValueOf.{short, good_short}
 use Rattle.layout.proofs.Same.{same_self, same_eq}
-use Rattle.layout.proofs.SetsAt.{byte_behind, sets_length, past_set, sets_back, past_back}
+use Rattle.layout.proofs.SetsAt.{sets_length, past_set, sets_back, past_back}
 use Rattle.layout.proofs.SpansAt.{spans_length, spans_back}
 
 -- ---- what the code reads
 
-module _ (b : List ℕ) (epoch shape skipped n at : ℕ) (cs : List Chain) (past m : ℕ) (rs : List Range) where
-  pub parsed_is : epoch ≡ number_at 4 0 b → shape ≡ get_or b 4 0 → skipped ≡ get_or b 5 0 → at ≡ 6 + skipped → n ≡ get_or b at 0
-      → cs ≡ padded 16 no_chain (map chain_of (sets_at n (drop (at + 1) b))) → drop past b ≡ past_sets n (drop (at + 1) b)
-      → m ≡ get_or b past 0 → rs ≡ padded 8 no_range (map range_of (spans_at m (drop (past + 1) b)))
+module _ (b : List ℕ) (epoch shape n : ℕ) (cs : List Chain) (past : List ℕ) (m : ℕ) (rs : List Range) where
+  pub parsed_is : epoch ≡ number_at 4 0 b → shape ≡ get_or b 4 0 → n ≡ get_or (past_units b) 0 0
+      → cs ≡ padded 16 no_chain (map chain_of (sets_at n (drop 1 (past_units b)))) → past ≡ past_sets n (drop 1 (past_units b))
+      → m ≡ get_or past 0 0 → rs ≡ padded 8 no_range (map range_of (spans_at m (drop 1 past)))
       → ◌≡◌ {A = Layout} (record { epoch = record { 0 = epoch }; shape = shape; set_count = n; sets = cs; range_count = m; ranges = rs }) (value_of (decode b))
   unfolding value_of decode
-  parsed_is ee eh es ea en ec ep em er =
-      let start : 6 + get_or b 5 0 ≡ at = sym (ea ∙ rw es) in
-      let count : get_or (drop at b) 0 0 ≡ n = byte_behind b at ∙ sym en in
-      let behind : drop 1 (drop at b) ≡ drop (at + 1) b = drop-drop 1 at b in
-      let uses : get_or (drop past b) 0 0 ≡ m = byte_behind b past ∙ sym em in
-      let end : drop 1 (drop past b) ≡ drop (past + 1) b = drop-drop 1 past b in
-      sym (rw (start, count, behind, ← ep, uses, end, sets_length n (drop (at + 1) b), spans_length m (drop (past + 1) b), ← ec, ← er, ← ee, ← eh))
+  parsed_is ee eh en ec ep em er =
+      sym (rw (← en, ← ep, ← em, sets_length n (drop 1 (past_units b)), spans_length m (drop 1 past), ← ec, ← er, ← ee, ← eh))
 
 -- ---- results
 

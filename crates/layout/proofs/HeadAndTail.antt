@@ -1,24 +1,21 @@
 -- Laws of `head_of` and `tail_of`: the head is the least, and both are units of the set.
-use Prim.Native.Nat.{ℕ, zero, suc, ◌-◌, ◌<◌, ◌≤◌}
-use mathlib.Core.Bool.{true, cond}
+use Prim.Native.Nat.{ℕ, suc, ◌-◌, ◌≤◌}
+use mathlib.Core.Bool.{true}
 use mathlib.Core.List.{List, [], ◌∷◌}
 use mathlib.Core.Logic.{⊎_elim}
 use mathlib.Core.Path.{◌≡◌, refl}
 use native.Mathlib.Omega.{arith}
-use borrow.Author.Tests.{lt-ltb}
-use lib.Dec.{ltb}
-use lib.ListN.{length, get_or, take}
+use lib.ListN.{length}
+use Rattle.std.specs.List.{slice_get}
 use Rattle.layout.specs.Lay.{◌in?◌, rising}
-use Rattle.layout.specs.Places.{head_of, tail_of}
+use Rattle.layout.specs.Places.{or_zero, head_of, tail_of}
 use Rattle.layout.proofs.InSets.{in_first, in_none, in_cases, in_later}
 use Rattle.layout.proofs.Rising.{rises, rising_within}
 
--- the first unit of a chain
-pub head_is : (n : ℕ) (us : List ℕ) → cond (ltb 0 n) (get_or us 0 0) 0 ≡ head_of (take n us)
+pub first_is : (us : List ℕ) → or_zero (slice_get us 0) ≡ head_of us
 unfolding head_of
-head_is zero us = refl
-head_is (suc n) [] = rw (lt-ltb 0 (suc n) (omega arith))
-head_is (suc n) (u ∷ us) = rw (lt-ltb 0 (suc n) (omega arith))
+first_is [] = refl
+first_is (u ∷ us) = refl
 
 pub head_in : (us : List ℕ) → 1 ≤ length us → (head_of us in? us) ≡ true
 unfolding head_of
@@ -31,18 +28,13 @@ head_least low [] u r i = absurd (in_none u i)
 head_least low (x ∷ xs) u r i =
     ⊎_elim (λ e. omega arith) (λ j. omega (arith, rising_within x xs u (rises low x xs r).rest j)) (in_cases u x xs i)
 
-pub tail_is : (us : List ℕ) → 0 < length us → get_or us (length us - 1) 0 ≡ tail_of us
+pub last_is : (us : List ℕ) → or_zero (slice_get us (length us - 1)) ≡ tail_of us
 unfolding tail_of
-tail_is [] h = absurd (omega arith)
-tail_is (u ∷ []) h = refl
-tail_is (u ∷ v ∷ us) h =
+last_is [] = refl
+last_is (u ∷ []) = refl
+last_is (u ∷ v ∷ us) =
     let e : suc (suc (length us)) - 1 ≡ suc (suc (length us) - 1) = omega arith in
-    rw e (tail_is (v ∷ us) (omega arith))
-
-pub tail_none : (us : List ℕ) → length us ≤ 0 → 0 ≡ tail_of us
-unfolding tail_of
-tail_none [] h = refl
-tail_none (u ∷ us) h = absurd (omega arith)
+    rw e (last_is (v ∷ us))
 
 pub tail_in_lem : (us : List ℕ) → 1 ≤ length us → (tail_of us in? us) ≡ true
 unfolding tail_of

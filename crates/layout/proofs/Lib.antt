@@ -1,6 +1,7 @@
 -- The laws that other crates cite.
 pub mod Take
 pub mod Any
+pub mod Found
 pub mod InSets
 pub mod Rising
 pub mod HeadAndTail
@@ -13,7 +14,6 @@ pub mod GoodSpans
 pub mod SetNumber
 pub mod PlaceAnswer
 pub mod TidyChains
-pub mod BlankRanges
 pub mod Used
 pub mod GoodValue
 pub mod Padded

@@ -1,20 +1,22 @@
 -- Laws of `after`, `above` and so of `next_unit`: no unit of those that rise stands between u and the next one.
 use Prim.Native.Nat.{ℕ, suc, ◌+◌, ◌-◌, ◌<◌, ◌≤◌}
-use mathlib.Core.Bool.{Bool, true, false, ◌&&◌, cond, and-true, and-false}
+use mathlib.Core.Bool.{Bool, true, false, ◌&&◌, not, cond, and-true, and-false}
 use mathlib.Core.List.{List, [], ◌∷◌}
 use mathlib.Core.Logic.{⊎_elim}
-use mathlib.Core.Path.{◌≡◌, refl, sym, ap, ◌∙◌}
+use mathlib.Core.Path.{◌≡◌, refl, sym, ◌∙◌}
 use native.Mathlib.Numerals.{add-one}
 use native.Mathlib.Omega.{arith}
-use borrow.Author.Tests.{eqb-true, eqb-false, ltb-true, ltb-false, eq-eqb, ne_eqb}
+use borrow.Author.Tests.{eqb-true, eqb-false, ltb-true, ltb-false}
 use lib.Dec.{eqb, ltb}
-use lib.ListN.{length, get_or, drop, length-drop}
-use lib.Seq.{drop-cons}
+use lib.ListN.{length}
+use Rattle.std.proofs.Common.{None, Some}
+use Rattle.std.specs.List.{slice_get, position, position_or_len}
+use Rattle.std.proofs.lemmas.Option.{slice_get_past}
 use Rattle.layout.specs.Lay.{◌in?◌, rising, used_from, unit_limit, in_sets}
-use Rattle.layout.specs.Places.{head_of, after, above}
+use Rattle.layout.specs.Places.{or_zero, head_of, after, above}
 use Rattle.layout.proofs.InSets.{in_first, in_later, in_cases, in_none}
 use Rattle.layout.proofs.Rising.{Rises, rises, rising_within}
-use Rattle.layout.proofs.HeadAndTail.{head_least}
+use Rattle.layout.proofs.HeadAndTail.{first_is, head_least}
 
 -- ---- the unit after u
 
@@ -92,33 +94,33 @@ above_nearest low (x ∷ xs) u v r j h = go (ltb u x) refl (λ k. above_nearest 
     go true e later = record { some = omega (arith, ltb-true u x e); near = first }
     go false e later = later (in_rest v x xs j (λ g. omega (arith, ltb-false u x e)))
 
--- ---- the loop over a set: the units passed are not u
+-- ---- where u stands, the unit after it is the next one
 
-after_one : (u : ℕ) (us : List ℕ) → length us ≤ 1 → 0 ≡ after u us
-unfolding after head_of
-after_one u [] h = refl
-after_one u (x ∷ []) h = go (eqb u x)
+pub after_place : (u : ℕ) (us : List ℕ) → or_zero (slice_get us (suc (position_or_len (λ x. eqb u x) us))) ≡ after u us
+unfolding after
+after_place u [] = refl
+after_place u (x ∷ xs) = go (eqb u x) (after_place u xs)
   where
-    go : (b : Bool) → ◌≡◌ {A = ℕ} 0 (cond b 0 0)
-    go true = refl
-    go false = refl
-after_one u (x ∷ y ∷ us) h = absurd (omega arith)
+    go : (b : Bool) → or_zero (slice_get xs (suc (position_or_len (λ x. eqb u x) xs))) ≡ after u xs → or_zero (slice_get xs (cond (not b) (1 + position_or_len (λ x. eqb u x) xs) 0)) ≡ cond b (head_of xs) (after u xs)
+    go true later = first_is xs
+    go false later = let e : 1 + position_or_len (λ x. eqb u x) xs ≡ suc (position_or_len (λ x. eqb u x) xs) = omega arith in rw e later
 
-module _ (u : ℕ) (us : List ℕ) (j : ℕ) where
-  pub after_here : j < length us → 1 ≤ j → u ≡ get_or us (j - 1) 0 → get_or us j 0 ≡ after u (drop (j - 1) us)
-  unfolding after head_of
-  after_here h k e =
-      let f : suc (j - 1) ≡ j = omega arith in
-      sym (rw (drop-cons us (j - 1) 0 (omega arith), eq-eqb _ _ e, f, drop-cons us j 0 h))
+module _ (u : ℕ) (us : List ℕ) where
+  pub after_found : (at : ℕ) → position (λ x. eqb u x) us ≡ Some at → or_zero (slice_get us (at + 1)) ≡ after u us
+  after_found at e = go (ltb (position_or_len (λ x. eqb u x) us) (length us)) e
+    where
+      go : (b : Bool) → cond b (Some (position_or_len (λ x. eqb u x) us)) None ≡ Some at → or_zero (slice_get us (at + 1)) ≡ after u us
+      go true f = let k : position_or_len (λ x. eqb u x) us ≡ at = cc in rw (add-one at, ← k) (after_place u us)
+      go false f = cc
 
-  pub after_later : j < length us → 1 ≤ j → (u ≡ get_or us (j - 1) 0 → ⊥) → after u (drop (j + 1 - 1) us) ≡ after u (drop (j - 1) us)
-  unfolding after head_of
-  after_later h k e =
-      let f : suc (j - 1) ≡ j + 1 - 1 = omega arith in
-      sym (rw (drop-cons us (j - 1) 0 (omega arith), ne_eqb _ _ e) (ap (λ k. after u (drop k us)) f))
-
-  pub after_none : length us ≤ j → 0 ≡ after u (drop (j - 1) us)
-  after_none h = after_one u (drop (j - 1) us) (rw (length-drop (j - 1) us) (omega arith))
+  pub after_absent : position (λ x. eqb u x) us ≡ None → 0 ≡ after u us
+  after_absent e = go (ltb (position_or_len (λ x. eqb u x) us) (length us)) refl e
+    where
+      go : (b : Bool) → ltb (position_or_len (λ x. eqb u x) us) (length us) ≡ b → cond b (Some (position_or_len (λ x. eqb u x) us)) None ≡ None → 0 ≡ after u us
+      go true g f = cc
+      go false g f =
+          let past : slice_get us (suc (position_or_len (λ x. eqb u x) us)) ≡ None = slice_get_past us _ (omega (arith, ltb-false _ _ g)) in
+          rw past at (after_place u us)
 
 -- ---- the loop over the units of a layout in rising number
 

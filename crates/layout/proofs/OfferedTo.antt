@@ -7,7 +7,7 @@ use borrow.Author.Tests.{eq-eqb, ne_eqb, eqb-true, not-false}
 use lib.Dec.{eqb}
 use Rattle.num.proofs.Tests.{and_both, cond_zero}
 use Rattle.layout.specs.declared.Layout.{Layout}
-use Rattle.layout.specs.Value.{lay_of, good_value, blank}
+use Rattle.layout.specs.Value.{lay_of, good_value}
 use Rattle.layout.specs.Successor.{lawful}
 use Rattle.layout.specs.Holder.{offer_answer, offered_to, fetched_from}
 use Rattle.layout.proofs.Lawful.{shape_kept}
@@ -55,7 +55,3 @@ module _ (held offered : Layout) where
 pub fetched_good : (held : Layout) → good_value held ≡ true → record { answer = 0; layout = held } ≡ fetched_from held
 unfolding fetched_from
 fetched_good held e = sym (rw e)
-
-pub fetched_none : (held : Layout) → good_value held ≡ false → record { answer = 10; layout = blank } ≡ fetched_from held
-unfolding fetched_from
-fetched_none held e = sym (rw e)

@@ -61,14 +61,6 @@ padded_at (suc n) zero (x ∷ xs) = rw (lt-ltb 0 (suc n) (omega arith))
 padded_at (suc n) (suc j) [] = rw (leb-suc-suc (suc j) n) (padded_at n j [])
 padded_at (suc n) (suc j) (x ∷ xs) = rw (leb-suc-suc (suc j) n) (padded_at n j xs)
 
-pub padded_four : (xs : List ℕ) → padded 4 0 xs ≡ get_or xs 0 0 ∷ get_or xs 1 0 ∷ get_or xs 2 0 ∷ get_or xs 3 0 ∷ []
-unfolding padded
-padded_four [] = refl
-padded_four (a ∷ []) = refl
-padded_four (a ∷ b ∷ []) = refl
-padded_four (a ∷ b ∷ c ∷ []) = refl
-padded_four (a ∷ b ∷ c ∷ d ∷ xs) = refl
-
 -- where there is no blank, it is what stands there
 pub padded_there : (n : ℕ) (xs : List ℕ) → n ≤ length xs → padded n 0 xs ++ drop n xs ≡ xs
 unfolding padded

@@ -4,9 +4,10 @@ use mathlib.Core.Bool.{Bool, true, false, ◌||◌, not, cond}
 use mathlib.Core.List.{List, [], ◌∷◌, map}
 use mathlib.Core.Path.{◌≡◌, refl, sym}
 use native.Mathlib.Omega.{arith}
-use borrow.Author.Tests.{lt-ltb, le-ltb, leb-false, ltb-false, lt-leb, not-false, ne_eqb}
+use borrow.Author.Tests.{lt-ltb, le-ltb, leb-false, ltb-false, lt-leb, not-false}
 use lib.Dec.{ltb, leb}
 use lib.ListN.{length, take}
+use Rattle.std.specs.Int.{from_bool}
 use Rattle.num.specs.Limits.{last_epoch}
 use Rattle.num.specs.Checks.{lowest}
 use Rattle.num.proofs.Tests.{or_false, cond_zero}
@@ -14,12 +15,12 @@ use Rattle.layout.specs.declared.Chain.{Chain}
 use Rattle.layout.specs.declared.Layout.{Layout}
 use Rattle.layout.specs.declared.Wish.{Wish}
 use Rattle.layout.specs.Lay.{Lay, sets_limit, ranges_limit, good_sets}
-use Rattle.layout.specs.Value.{units_in, lay_of, good_value, value_of, blank}
+use Rattle.layout.specs.Value.{units_in, lay_of, good_value, value_of}
 use Rattle.layout.specs.Plan.{new_ranges, bad_drops, emptied, plan_checks, plan_answer, good_wish, new_of, reorganise_answer, planned, planned_for}
 use Rattle.layout.proofs.GoodChains.{wish_sets}
 
 -- one range more where a set is wanted
-pub new_ranges_lem : (n : ℕ) (cs : List Chain) → 0 < length cs → cond (ltb 0 n) 1 0 ≡ new_ranges (map units_in (take n cs))
+pub new_ranges_lem : (n : ℕ) (cs : List Chain) → 0 < length cs → from_bool (ltb 0 n) ≡ new_ranges (map units_in (take n cs))
 new_ranges_lem n [] h = absurd (omega arith)
 new_ranges_lem zero (c ∷ cs) h = refl
 new_ranges_lem (suc n) (c ∷ cs) h = rw (lt-ltb 0 (suc n) (omega arith))
@@ -93,7 +94,3 @@ fine_reorganise held drops w r =
 pub planned_fine : (held : Layout) (drops : List ℕ) (w : Wish) (l : Layout) → reorganise_answer held drops w ≡ 0 → l ≡ value_of (planned (lay_of held) drops (new_of w) 0) → record { answer = 0; layout = l } ≡ planned_for held drops w
 unfolding planned_for
 planned_fine held drops w l e f = sym (rw (e, f))
-
-pub planned_refused : (held : Layout) (drops : List ℕ) (w : Wish) (a : ℕ) (l : Layout) → a ≡ reorganise_answer held drops w → (a ≡ 0 → ⊥) → l ≡ blank → record { answer = a; layout = l } ≡ planned_for held drops w
-unfolding planned_for
-planned_refused held drops w a l e n f = rw (← e, ne_eqb _ _ n, f)

@@ -8,7 +8,10 @@ use native.Mathlib.Omega.{arith}
 use borrow.Author.Tests.{leb-true, ltb-true}
 use lib.Dec.{ltb, leb}
 use Rattle.num.proofs.Tests.{and_both}
+use Rattle.std.proofs.Common.{zero, suc}
+use Rattle.std.specs.List.{slice_get}
 use Rattle.layout.specs.Lay.{rising, unit_limit, ◌in?◌}
+use Rattle.layout.specs.Places.{FromOne}
 use Rattle.layout.proofs.InSets.{in_none, in_cases}
 
 pub record Rises (low x : ℕ) (xs : List ℕ) : Type 0 where
@@ -29,3 +32,9 @@ rising_within low [] u r i = absurd (in_none u i)
 rising_within low (x ∷ xs) u r i =
     let s = rises low x xs r in
     ⊎_elim (λ e. omega arith) (λ j. omega (arith, rising_within x xs u s.rest j)) (in_cases u x xs i)
+
+-- no unit of those that rise is numbered 0
+pub from_one : (low : ℕ) (us : List ℕ) (k : ℕ) → rising low us ≡ true → FromOne (slice_get us k)
+from_one low [] k r = tt
+from_one low (x ∷ xs) zero r = omega (arith, rises low x xs r)
+from_one low (x ∷ xs) (suc k) r = from_one x xs k (rises low x xs r).rest

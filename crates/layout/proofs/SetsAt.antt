@@ -1,37 +1,35 @@
 -- Laws of `sets_bytes`, `sets_at` and `past_sets`: sets that are written are read back, and the loop that reads them.
-use Prim.Native.Nat.{ℕ, zero, suc, ◌+◌, ◌*◌, ◌-◌, ◌<◌, ◌≤◌}
+use Prim.Native.Nat.{ℕ, zero, suc, ◌+◌, ◌-◌, ◌<◌, ◌≤◌}
 use mathlib.Core.Bool.{cond}
 use mathlib.Core.List.{List, [], ◌∷◌, ◌++◌, map, append_assoc, append-nil}
 use mathlib.Core.Path.{◌≡◌, refl, sym, ap, ◌∙◌}
 use native.Mathlib.Nat.{add-zero, sub-zero, not-suc-le-zero}
 use native.Mathlib.Numerals.{add-one, one-add}
 use native.Mathlib.Omega.{arith}
+use borrow.Author.Tests.{lt-ltb}
 use lib.Dec.{ltb}
-use lib.ListN.{length, get_or, drop, set, replicate, length-append, length-drop}
+use lib.ListN.{length, get_or, drop, set, replicate, length-append, length-drop, length-set}
 use lib.Seq.{get_or-drop, drop-drop, sets, drop-append_seam}
+use Rattle.std.proofs.lemmas.Grind.{same_number_lists}
 use Rattle.num.proofs.Tests.{left_step}
 use Rattle.num.proofs.Front.{Front, front_append}
 use Rattle.layout.specs.declared.Chain.{Chain}
 use Rattle.layout.specs.Value.{padded, chain_of, no_chain}
 use Rattle.layout.specs.Codec.{set_front, sets_at, past_sets, counted, sets_bytes, sets_said}
-use Rattle.layout.proofs.Padded.{padded_at, length_padded, padded_four, sets_padded, padded_exact, padded_there}
+use Rattle.layout.proofs.Padded.{padded_at, length_padded, sets_padded, padded_exact, padded_there}
 
 -- ---- a set
 
 pub byte_behind : (b : List ℕ) (at : ℕ) → get_or (drop at b) 0 0 ≡ get_or b at 0
 byte_behind b at = get_or-drop at b 0 0 ∙ rw add-zero
 
-unit_behind : (b : List ℕ) (at n j : ℕ) → get_or (padded n 0 (drop 1 (drop at b))) j 0 ≡ cond (ltb j n) (get_or b (at + (1 + j)) 0) 0
-unit_behind b at n j = padded_at n j (drop 1 (drop at b)) ∙ rw (get_or-drop 1 (drop at b) j 0, get_or-drop at b (1 + j) 0)
-
-pub chain_read : (b : List ℕ) (at n p q r s : ℕ) → n ≡ get_or b at 0
-    → p ≡ cond (ltb 0 n) (get_or b (at + 1) 0) 0 → q ≡ cond (ltb 1 n) (get_or b (at + 2) 0) 0 → r ≡ cond (ltb 2 n) (get_or b (at + 3) 0) 0 → s ≡ cond (ltb 3 n) (get_or b (at + 4) 0) 0
-    → ◌≡◌ {A = Chain} (record { count = n; units = p ∷ q ∷ r ∷ s ∷ [] }) (chain_of (set_front (drop at b)))
-chain_read b at n p q r s en ep eq er es =
-    let m : get_or (drop at b) 0 0 ≡ n = byte_behind b at ∙ sym en in
-    let us : padded 4 0 (padded n 0 (drop 1 (drop at b))) ≡ p ∷ q ∷ r ∷ s ∷ [] = padded_four (padded n 0 (drop 1 (drop at b)))
-    ∙ rw (unit_behind b at n 0, unit_behind b at n 1, unit_behind b at n 2, unit_behind b at n 3, ep, eq, er, es) in
-    sym (rw (m, length_padded n 0 (drop 1 (drop at b)), us))
+pub chain_read : (b us : List ℕ) (n : ℕ) → n ≡ get_or b 0 0 → length us ≡ 4 → ((k : ℕ) → k < 4 → get_or us k 0 ≡ cond (ltb k n) (get_or b (1 + k) 0) 0)
+    → ◌≡◌ {A = Chain} (record { count = n; units = us }) (chain_of (set_front b))
+chain_read b us n e four at =
+    let units : us ≡ padded 4 0 (padded n 0 (drop 1 b))
+    = same_number_lists us (padded 4 0 (padded n 0 (drop 1 b))) (rw (length_padded 4 0 (padded n 0 (drop 1 b))) four)
+    (λ k h. let within : k < 4 = rw four at h in at k within ∙ sym (padded_at 4 k (padded n 0 (drop 1 b)) ∙ rw (lt-ltb k 4 within) (padded_at n k (drop 1 b) ∙ rw (get_or-drop 1 b k 0)))) in
+    rw (← e, length_padded n 0 (drop 1 b)) (λ i. record { count = n; units = units i })
 
 -- a set's count, and what stands behind the set
 pub chain_next : (b : List ℕ) (past : ℕ) (c : Chain) → c ≡ chain_of (set_front (drop past b))
@@ -43,42 +41,28 @@ chain_next b past c e =
 -- ---- the loop over the sets
 
 -- i sets of n were read; what is left to store makes the whole
-pub record SetsReading (b : List ℕ) (n at i : ℕ) (cs : List Chain) (past : ℕ) : Type 0 where
-  pub bound : i ≤ n
-  pub small : past ≤ at + 256 * i
-  pub rest : sets cs i (map chain_of (sets_at (n - i) (drop past b))) ≡ padded 16 no_chain (map chain_of (sets_at n (drop at b)))
-  pub behind : past_sets (n - i) (drop past b) ≡ past_sets n (drop at b)
+pub record SetsReading (b : List ℕ) (n i : ℕ) (cs : List Chain) (rest : List ℕ) : Type 0 where
+  pub stored : sets cs i (map chain_of (sets_at (n - i) rest)) ≡ padded 16 no_chain (map chain_of (sets_at n b))
+  pub behind : past_sets (n - i) rest ≡ past_sets n b
+  pub long : length cs ≡ 16
 
-pub sets_none : (b : List ℕ) (n at : ℕ) → SetsReading b n at 0 (replicate 16 no_chain) at
-sets_none b n at = record {
-  bound = omega arith;
-  small = omega arith;
-  rest = rw sub-zero (sets_padded 16 no_chain (map chain_of (sets_at n (drop at b))));
-  behind = rw sub-zero;
-}
+pub sets_none : (b : List ℕ) (n : ℕ) → SetsReading b n 0 (replicate 16 no_chain) b
+sets_none b n = record { stored = rw sub-zero (sets_padded 16 no_chain (map chain_of (sets_at n b))); behind = rw sub-zero; long = refl }
 
-module _ {b : List ℕ} {n at i : ℕ} {cs : List Chain} {past : ℕ} (s : SetsReading b n at i cs past) where
-  pub sets_more : (c : Chain) (cs' : List Chain) (past' : ℕ) → i < n → c ≡ chain_of (set_front (drop past b))
-      → cs' ≡ set cs i c → past' ≡ past + (1 + c.count) → past' ≤ past + 256 → SetsReading b n at (i + 1) cs' past'
+module _ {b : List ℕ} {n i : ℕ} {cs : List Chain} {rest : List ℕ} (s : SetsReading b n i cs rest) where
+  pub sets_more : (c : Chain) (cs' : List Chain) (rest' : List ℕ) → i < n → c ≡ chain_of (set_front rest) → cs' ≡ set cs i c → rest' ≡ drop (1 + c.count) rest → SetsReading b n (i + 1) cs' rest'
   unfolding sets_at past_sets
-  sets_more c cs' past' h e ecs epast room =
-      let small : past ≤ at + 256 * i = s.small in
-      let next : drop (1 + get_or (drop past b) 0 0) (drop past b) ≡ drop past' b = rw epast (chain_next b past c e).1 in
+  sets_more c cs' rest' h e ecs er =
+      let count : c.count ≡ get_or rest 0 0 = ap (λ (x : Chain). x.count) e ∙ length_padded (get_or rest 0 0) 0 (drop 1 rest) in
+      let next : drop (1 + get_or rest 0 0) rest ≡ rest' = rw er (rw count refl) in
       let left : n - i ≡ suc (n - suc i) = left_step n i h in
-      record {
-        bound = omega arith;
-        small = omega arith;
-        rest = rw (ecs, e, ← next, add-one i) (rw left at s.rest);
-        behind = rw (← next, add-one i) (rw left at s.behind);
-      }
+      record { stored = rw (ecs, e, ← next, add-one i) (rw left at s.stored); behind = rw (← next, add-one i) (rw left at s.behind); long = rw ecs (length-set cs i c ∙ s.long) }
 
-  pub sets_all : n ≤ i → (cs ≡ padded 16 no_chain (map chain_of (sets_at n (drop at b)))) × ((drop past b ≡ past_sets n (drop at b)) × (past ≤ at + 256 * n))
+  pub sets_all : n ≤ i → (cs ≡ padded 16 no_chain (map chain_of (sets_at n b))) × (rest ≡ past_sets n b)
   unfolding sets_at past_sets
   sets_all h =
       let z : n - i ≡ 0 = omega arith in
-      let small : past ≤ at + 256 * i = s.small in
-      let bound : i ≤ n = s.bound in
-      (rw z at s.rest, (rw z at s.behind, omega arith))
+      (rw z at s.stored, rw z at s.behind)
 
 -- ---- one set more
 
@@ -87,6 +71,14 @@ pub sets_left : (b : List ℕ) (n i past t : ℕ) (c : Chain) → i < n → c �
 unfolding sets_at
 sets_left b n i past t c h e et =
     let next : drop (1 + get_or (drop past b) 0 0) (drop past b) ≡ drop (past + (1 + t)) b = rw et (chain_next b past c e).1 in
+    rw (left_step n i h, next, add-one i)
+
+-- the same, of what stands behind the sets passed
+pub sets_next : (rest rest' : List ℕ) (n i : ℕ) (c : Chain) → i < n → c ≡ chain_of (set_front rest) → rest' ≡ drop (1 + c.count) rest → sets_at (n - i) rest ≡ set_front rest ∷ sets_at (n - (i + 1)) rest'
+unfolding sets_at
+sets_next rest rest' n i c h e er =
+    let count : c.count ≡ get_or rest 0 0 = ap (λ (x : Chain). x.count) e ∙ length_padded (get_or rest 0 0) 0 (drop 1 rest) in
+    let next : drop (1 + get_or rest 0 0) rest ≡ rest' = rw er (rw count refl) in
     rw (left_step n i h, next, add-one i)
 
 pub sets_over : (b : List ℕ) (n i past : ℕ) → n ≤ i → sets_at (n - i) (drop past b) ≡ []

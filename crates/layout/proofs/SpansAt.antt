@@ -1,5 +1,5 @@
 -- Laws of `spans_bytes` and `spans_at`: ranges that are written are read back, and the loop that reads them.
-use Prim.Native.Nat.{ℕ, zero, suc, ◌+◌, ◌*◌, ◌-◌, ◌<◌, ◌≤◌}
+use Prim.Native.Nat.{ℕ, zero, suc, ◌+◌, ◌-◌, ◌<◌, ◌≤◌}
 use mathlib.Core.Bool.{true, ◌&&◌}
 use mathlib.Core.List.{List, [], ◌∷◌, ◌++◌, map, append_assoc}
 use mathlib.Core.Path.{◌≡◌, refl, ap, ◌∙◌}
@@ -8,12 +8,12 @@ use native.Mathlib.Numerals.{add-one}
 use native.Mathlib.Omega.{arith}
 use borrow.Author.Tests.{ltb-true}
 use lib.Dec.{ltb, leb}
-use lib.ListN.{length, get_or, drop, set, replicate, length-append}
-use lib.Seq.{sets, get_or-drop, drop-drop, get_or_at, drop_at}
+use lib.ListN.{length, get_or, drop, set, replicate, length-append, length-set}
+use lib.Seq.{sets, get_or_at, drop_at}
 use Rattle.num.specs.Limits.{limit}
 use Rattle.num.specs.Bytes.{number_at, le_bytes}
 use Rattle.num.proofs.Tests.{left_step, and_both}
-use Rattle.num.proofs.Numbers.{number_behind, le_length, number_back}
+use Rattle.num.proofs.Numbers.{le_length, number_back}
 use Rattle.layout.specs.declared.Range.{Range}
 use Rattle.layout.specs.Lay.{Span, good_spans}
 use Rattle.layout.specs.Value.{range_of, padded, no_range}
@@ -22,31 +22,26 @@ use Rattle.layout.proofs.Padded.{sets_padded}
 
 -- ---- the loop over the ranges
 
-pub range_read : (b : List ℕ) (at s u : ℕ) → s ≡ number_at 8 at b → u ≡ get_or b (at + 8) 0
-    → ◌≡◌ {A = Range} (record { start = record { 0 = s }; sets = u }) (range_of (span_front (drop at b)))
-range_read b at s u es eu = rw (es, eu, number_behind 8 at b (omega arith), ← get_or-drop at b 8 0)
+-- i ranges of n were read; what is left to store makes the whole
+pub record SpansReading (b : List ℕ) (n i : ℕ) (rs : List Range) (rest : List ℕ) : Type 0 where
+  pub stored : sets rs i (map range_of (spans_at (n - i) rest)) ≡ padded 8 no_range (map range_of (spans_at n b))
+  pub long : length rs ≡ 8
 
-pub record SpansReading (b : List ℕ) (n at i : ℕ) (rs : List Range) (past : ℕ) : Type 0 where
-  pub bound : i ≤ n
-  pub small : past ≡ at + 9 * i
-  pub rest : sets rs i (map range_of (spans_at (n - i) (drop past b))) ≡ padded 8 no_range (map range_of (spans_at n (drop at b)))
+pub spans_none : (b : List ℕ) (n : ℕ) → SpansReading b n 0 (replicate 8 no_range) b
+spans_none b n = record { stored = rw sub-zero (sets_padded 8 no_range (map range_of (spans_at n b))); long = refl }
 
-pub spans_none : (b : List ℕ) (n at : ℕ) → SpansReading b n at 0 (replicate 8 no_range) at
-spans_none b n at = record { bound = omega arith; small = omega arith; rest = rw sub-zero (sets_padded 8 no_range (map range_of (spans_at n (drop at b)))) }
-
-module _ {b : List ℕ} {n at i : ℕ} {rs : List Range} {past : ℕ} (s : SpansReading b n at i rs past) where
-  pub spans_more : (r : Range) (rs' : List Range) → i < n → r ≡ range_of (span_front (drop past b)) → rs' ≡ set rs i r → SpansReading b n at (i + 1) rs' (past + 9)
+module _ {b : List ℕ} {n i : ℕ} {rs : List Range} {rest : List ℕ} (s : SpansReading b n i rs rest) where
+  pub spans_more : (rs' : List Range) (rest' : List ℕ) → i < n → rs' ≡ set rs i (range_of (span_front rest)) → rest' ≡ drop 9 rest → SpansReading b n (i + 1) rs' rest'
   unfolding spans_at
-  spans_more r rs' h e ers =
-      let small : past ≡ at + 9 * i = s.small in
+  spans_more rs' rest' h ers er =
       let left : n - i ≡ suc (n - suc i) = left_step n i h in
-      record { bound = omega arith; small = omega arith; rest = rw (ers, e, ← drop-drop 9 past b, add-one i) (rw left at s.rest) }
+      record { stored = rw (ers, er, add-one i) (rw left at s.stored); long = rw ers (length-set rs i (range_of (span_front rest)) ∙ s.long) }
 
-  pub spans_all : n ≤ i → rs ≡ padded 8 no_range (map range_of (spans_at n (drop at b)))
+  pub spans_all : n ≤ i → rs ≡ padded 8 no_range (map range_of (spans_at n b))
   unfolding spans_at
   spans_all h =
       let z : n - i ≡ 0 = omega arith in
-      rw z at s.rest
+      rw z at s.stored
 
 pub spans_length : (n : ℕ) (xs : List ℕ) → length (spans_at n xs) ≡ n
 unfolding spans_at

@@ -12,10 +12,9 @@ use Rattle.num.specs.declared.Edges.{Edges}
 use Rattle.num.proofs.Tests.{false_true}
 use Rattle.layout.specs.declared.Layout.{Layout}
 use Rattle.layout.specs.declared.Wish.{Wish}
-use Rattle.layout.specs.declared.plan.Started.{Started}
 use Rattle.layout.specs.Lay.{Span, Lay, good_spans, first_at_zero, ranges_limit, good_sets}
 use Rattle.layout.specs.Value.{padded, no_range, range_of, value_of, blank, lay_of}
-use Rattle.layout.specs.Plan.{last_start, start_at, ends_open, open_start, new_spans, planned, start_set, new_start, start_answer, first_free, plan_answer, started_at, new_of, reorganise_answer}
+use Rattle.layout.specs.Plan.{StartAnswer, last_start, start_at, ends_open, open_start, new_spans, planned, start_set, new_start, start_answer, first_free, plan_answer, started_at, new_of, reorganise_answer}
 use Rattle.layout.proofs.GoodLay.{Good, good_says}
 use Rattle.layout.proofs.GoodSpans.{is_good_span, no_span}
 use Rattle.layout.proofs.Padded.{padded_last, padded_set_last}
@@ -106,7 +105,7 @@ module _ (held : Lay) (drops us : List ℕ) (new : List (List ℕ)) (start : ℕ
 -- ---- the plan with its start set
 
 -- what a reorganise of the held layout offers, and where it then starts the sequencer
-abbrev pub started_plan : Lay → List ℕ → List (List ℕ) → Edges → Started
+abbrev pub started_plan : Lay → List ℕ → List (List ℕ) → Edges → StartAnswer
 started_plan held drops new edges = record {
   answer = start_answer held new edges.edge.0;
   layout = cond (eqb (start_answer held new edges.edge.0) 0) (value_of (planned held drops new (new_start held edges.edge.0))) blank;

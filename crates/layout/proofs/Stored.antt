@@ -1,18 +1,13 @@
--- Laws of `sets` of the library: lists stored in an array from a place on, one entry a turn.
-use Prim.Native.Nat.{ℕ, suc, ◌+◌, ◌<◌, ◌≤◌}
+-- Laws of `sets` of the library: lists stored in an array, and the loop that copies one.
+use Prim.Native.Nat.{ℕ, ◌+◌, ◌<◌, ◌≤◌}
 use mathlib.Core.List.{List, [], ◌∷◌}
 use mathlib.Core.Path.{◌≡◌, refl, ap, ◌∙◌}
 use native.Mathlib.Numerals.{add-one}
 use native.Mathlib.Omega.{arith}
-use lib.ListN.{length, get_or, take, drop, set, drop_of_length-le, length-set}
-use lib.Seq.{sets, drop-cons}
+use lib.ListN.{length, get_or, take, drop, set, length-set}
+use lib.Seq.{sets}
 use Rattle.layout.proofs.Take.{front_step, front_end}
 use Rattle.layout.proofs.Padded.{sets_behind}
-
--- ---- those from the ith on are still to go to j and on
-
-pub record Stored {A : Type 0} (whole vs out : List A) (j i : ℕ) : Type 0 where
-  pub rest : sets out j (drop i vs) ≡ whole
 
 module _ {A : Type 0} where
   pub stored_whole : (xs vs : List A) → length vs ≡ length xs → sets xs 0 vs ≡ vs
@@ -20,13 +15,6 @@ module _ {A : Type 0} where
   stored_whole [] (v ∷ vs) h = absurd (omega arith)
   stored_whole (x ∷ xs) [] h = absurd (omega arith)
   stored_whole (x ∷ xs) (v ∷ vs) h = sets_behind v xs 0 vs ∙ ap (◌∷◌ v) (stored_whole xs vs (omega arith))
-
-module _ {A : Type 0} {whole vs out : List A} {j i : ℕ} (s : Stored whole vs out j i) where
-  pub stored_more : (v d : A) (k : ℕ) → i < length vs → v ≡ get_or vs i d → k ≡ suc j → Stored whole vs (set out j v) k (i + 1)
-  stored_more v d k h e f = record { rest = rw (f, e, add-one i) (rw (drop-cons vs i d h) at s.rest) }
-
-  pub stored_all : length vs ≤ i → out ≡ whole
-  stored_all h = rw (drop_of_length-le vs h) at s.rest
 
 -- ---- the loop that copies the first n of xs
 

@@ -5,11 +5,10 @@ use mathlib.Core.Path.{◌≡◌, refl, sym, ap, ◌∙◌}
 use native.Mathlib.Nat.{not-suc-le-zero}
 use native.Mathlib.Numerals.{add-one}
 use native.Mathlib.Omega.{arith}
-use lib.ListN.{length, get_or, take, drop, length-take, length-map, drop_of_length-le, get_or-map, get_or-eq_default}
+use lib.ListN.{length, get_or, take, drop, length-take, length-map, drop_of_length-le, get_or-map}
 use lib.Seq.{take-nil, get_or-take, drop-cons}
+use Rattle.std.proofs.lemmas.List.{drop_min}
 use Rattle.layout.specs.declared.Chain.{Chain}
-use Rattle.layout.specs.Lay.{set_limit}
-use Rattle.layout.specs.Value.{units_in}
 
 module _ {A : Type 0} where
   -- a count past the end counts no more than the array holds
@@ -19,6 +18,10 @@ module _ {A : Type 0} where
   take_clip (suc n) m (x ∷ xs) e =
       let z : min (suc n) m ≡ suc (min n (length xs)) = omega arith in
       rw z (ap (◌∷◌ x) (take_clip n (length xs) xs refl))
+
+  -- what stands past it
+  pub past_front : (n : ℕ) (xs : List A) → drop (length (take n xs)) xs ≡ drop n xs
+  past_front n xs = rw length-take (drop_min n xs)
 
 module _ {A B : Type 0} (f : A → B) where
   pub front_more : (n : ℕ) (xs : List A) (i : ℕ) (d : A) → i < n → i < length xs → drop i (map f (take n xs)) ≡ f (get_or xs i d) ∷ drop (i + 1) (map f (take n xs))
@@ -36,9 +39,6 @@ module _ {A B : Type 0} (f : A → B) where
   pub front_at : (n : ℕ) (xs : List A) (i : ℕ) (d : A) → i < n → f (get_or xs i d) ≡ get_or (map f (take n xs)) i (f d)
   front_at n xs i d h = sym (get_or-map f (take n xs) i d ∙ ap f (get_or-take n xs i d h))
 
-  pub front_past : (n m : ℕ) (xs : List A) (i : ℕ) (d : A) → length xs ≡ m → min n m ≤ i → f d ≡ get_or (map f (take n xs)) i (f d)
-  front_past n m xs i d e h = sym (get_or-eq_default (map f (take n xs)) (f d) {n = i} (rw (front_length n xs, e) h))
-
   pub front_over : (n m : ℕ) (xs : List A) (i : ℕ) → length xs ≡ m → min n m ≤ i → drop i (map f (take n xs)) ≡ []
   front_over n m xs i e h = drop_of_length-le (map f (take n xs)) {i = i} (rw (front_length n xs, e) h)
 
@@ -50,13 +50,6 @@ front_step n xs i h k =
 
 pub front_end : (n : ℕ) (xs : List ℕ) (i : ℕ) → n ≤ i → drop i (take n xs) ≡ []
 front_end n xs i h = drop_of_length-le (take n xs) {i = i} (rw length-take (omega arith))
-
--- the units of a chain, of which code counts no more than there is room for
-pub clipped : (c : Chain) (n : ℕ) → length c.units ≡ set_limit → n ≡ min c.count set_limit → take n c.units ≡ units_in c
-clipped c n e f = rw f (take_clip c.count set_limit c.units e)
-
-pub clipped_count : (c : Chain) (n : ℕ) → length c.units ≡ set_limit → n ≡ min c.count set_limit → n ≡ length (units_in c)
-clipped_count c n e f = f ∙ sym (length-take c.count c.units ∙ rw e)
 
 -- what code reads past the end of an array of sets
 abbrev pub past_sets : Chain

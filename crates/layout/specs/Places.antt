@@ -1,9 +1,10 @@
 -- Where a position belongs (docs/RULES.md, 5.3).
-use Rattle.std.specs.Prelude.{ℕ, ◌+◌, ◌-◌, ◌%◌, not, cond, List, [], ◌∷◌, eqb, ltb, leb, get_or}
+use Rattle.std.specs.Prelude.{ℕ, ◌+◌, ◌-◌, ◌%◌, not, cond, List, [], ◌∷◌, eqb, ltb, leb, get_or, Result, Option, None, Some, ◌<◌}
 use Rattle.num.specs.Limits.{limit}
 use Rattle.num.specs.Checks.{lowest, ◌if◌}
 use Rattle.layout.specs.declared.Layout.{Layout}
-use Rattle.layout.specs.declared.place.Placed.{Placed}
+use Rattle.num.specs.declared.refusal.Refusal.{Refusal}
+use Rattle.num.specs.Refusals.{answered, given}
 use Rattle.layout.specs.Lay.{Span, Lay, units_of}
 use Rattle.layout.specs.Value.{lay_of, good_value}
 
@@ -19,6 +20,18 @@ set_number l p = placed l.spans 0 0 p
 -- the units of position p's set
 unfoldable pub set_at : Lay → ℕ → List ℕ
 set_at l p = get_or l.sets (set_number l p) []
+
+-- ---- a unit, or none: units are numbered from 1
+
+-- its number; 0 where there is none
+abbrev pub or_zero : Option ℕ → ℕ
+or_zero None = 0
+or_zero (Some u) = u
+
+-- no unit is numbered 0
+abbrev pub FromOne : Option ℕ → Type 0
+FromOne None = Unit {0}
+FromOne (Some u) = 0 < u
 
 -- the first unit of a set; 0 where there is none
 unfoldable pub head_of : List ℕ → ℕ
@@ -50,6 +63,14 @@ next_unit l u = above u (units_of l.sets)
 -- 2: a position of 2^40 or more; 10: not a good layout
 unfoldable pub place_answer : Layout → ℕ → ℕ
 place_answer l p = lowest (2 if leb limit p ∷ 10 if not (good_value l) ∷ [])
+
+-- an answer, and the number of a position's set, counted from 0
+pub record Placed : Type 0 where
+  pub answer : ℕ
+  pub set : ℕ
+
+abbrev pub placed_in : Result ℕ Refusal → Placed
+placed_in r = record { answer = answered r; set = given 0 r }
 
 -- the number of p's set; 0 where it is refused
 unfoldable pub placed_at : Layout → ℕ → Placed

@@ -1,12 +1,14 @@
 -- What a reorganise makes of a layout: units to drop, and new sets if wanted (docs/RULES.md, 8.3).
-use Rattle.std.specs.Prelude.{ℕ, ◌+◌, ◌-◌, max, Bool, true, false, ◌&&◌, ◌||◌, not, cond, List, [], ◌∷◌, ◌++◌, map, leb, ltb, eqb, length, get_or, take, set}
+use Rattle.std.specs.Prelude.{ℕ, ◌+◌, ◌-◌, max, Bool, true, false, ◌&&◌, ◌||◌, not, cond, List, [], ◌∷◌, ◌++◌, map, leb, ltb, eqb, length, get_or, take, set, Result}
 use Rattle.num.specs.declared.Edges.{Edges}
+use Rattle.num.specs.declared.Position.{Position}
+use Rattle.num.specs.declared.refusal.Refusal.{Refusal}
+use Rattle.num.specs.Refusals.{answered, given}
 use Rattle.num.specs.Limits.{limit, last_epoch}
 use Rattle.num.specs.Checks.{Check, lowest, ◌if◌}
 use Rattle.layout.specs.declared.Chain.{Chain}
 use Rattle.layout.specs.declared.Layout.{Layout}
 use Rattle.layout.specs.declared.Wish.{Wish}
-use Rattle.layout.specs.declared.plan.Planned.{Planned}
 use Rattle.layout.specs.declared.plan.Started.{Started}
 use Rattle.layout.specs.Lay.{Span, Lay, good_set, good_sets, ◌in?◌, in_sets, sets_limit, ranges_limit, unit_limit}
 use Rattle.layout.specs.Value.{no_range, units_in, chain_of, lay_of, value_of, blank, tidy_chain, good_value}
@@ -98,6 +100,14 @@ good_wish w = good_chains (take w.count w.sets)
 unfoldable pub reorganise_answer : Layout → List ℕ → Wish → ℕ
 reorganise_answer held drops w = lowest (10 if not (good_value held) ∷ plan_checks (lay_of held) drops (good_wish w) (new_of w))
 
+-- an answer, and the new layout, the start of its new range still open
+pub record Planned : Type 0 where
+  pub answer : ℕ
+  pub layout : Layout
+
+abbrev pub planned_in : Result Layout Refusal → Planned
+planned_in r = record { answer = answered r; layout = given blank r }
+
 -- the new layout, the start of its new range still open: 0; none where it is refused
 unfoldable pub planned_for : Layout → List ℕ → Wish → Planned
 planned_for held drops w = record {
@@ -142,8 +152,20 @@ settled plan edge = cond (ends_open (lay_of plan).spans) (start_set (length (lay
 unfoldable pub settled_first : Layout → Edges → ℕ
 settled_first plan edges = cond (ends_open (lay_of plan).spans) (open_start (lay_of plan).spans edges.edge.0) edges.written.0
 
+-- an answer, the new layout, and where the sequencer is started
+pub record StartAnswer : Type 0 where
+  pub answer : ℕ
+  pub layout : Layout
+  pub first : Position
+
+abbrev pub not_started : Started
+not_started = record { layout = blank; first = record { 0 = 0 } }
+
+abbrev pub started_in : Result Started Refusal → StartAnswer
+started_in r = record { answer = answered r; layout = (given not_started r).layout; first = (given not_started r).first }
+
 -- the plan with its start set, and where the sequencer is started; none and 0 where it is refused
-unfoldable pub started_at : Layout → Edges → Started
+unfoldable pub started_at : Layout → Edges → StartAnswer
 started_at plan edges = record {
   answer = settle_answer plan edges.edge.0;
   layout = cond (eqb (settle_answer plan edges.edge.0) 0) (settled plan edges.edge.0) blank;

@@ -4,6 +4,7 @@ unfoldable pub use Rattle.num.specs.Zeros.{zeros}
 use Rattle.layout.specs.declared.Chain.{Chain}
 use Rattle.layout.specs.declared.Range.{Range}
 use Rattle.layout.specs.declared.Layout.{Layout}
+use Rattle.layout.specs.declared.Wish.{Wish}
 use Rattle.layout.specs.Lay.{Span, Lay, good, set_limit, sets_limit, ranges_limit}
 
 -- xs in n places, the rest blank
@@ -62,6 +63,10 @@ blank = record {
   range_count = 0;
   ranges = replicate ranges_limit no_range;
 }
+
+-- no new set
+abbrev pub no_wish : Wish
+no_wish = record { count = 0; sets = replicate sets_limit no_chain }
 
 -- ---- the value of a good layout, and of no other
 

@@ -1,89 +1,119 @@
 // Whether a value is that of a good layout: limits kept, units and starts rising, all sets used, and blank past every count.
-ghost use Rattle.std.specs.Prelude.{◌≡◌, cond, ◌&&◌, ◌||◌, eqb, ltb, leb, drop};
-ghost use Rattle.num.specs.Limits.{limit};
-ghost use Rattle.layout.specs.Lay.{good_set, good_sets, good_spans, used, unit_limit};
-ghost use Rattle.layout.specs.Value.{lay_of, units_in, tidy_chain, tidy_chains, blank_ranges, good_value};
+ghost use Rattle.std.specs.Prelude.{◌≡◌, ◌≤◌, ◌&&◌, eqb, length, drop, map};
+ghost use Rattle.layout.specs.Lay.{set_limit, ranges_limit, rising, good_set, good_sets, good_spans, used};
+ghost use Rattle.layout.specs.Value.{lay_of, units_in, span_in, zeros, tidy_chain, tidy_chains, blank_ranges, good_value};
+ghost use Rattle.layout.specs.Plan.{good_chains};
 
 use crate::{Chain, Layout, Range};
 use num::Position;
-use num::answer::pick;
 use num::bytes::size;
 
-// A unit that is used is above `low` and at most the last; one that is not is 0.
-fn good_unit(used: bool, low: u8, unit: u8) -> bool
-    ensures { result ≡ cond used (ltb low unit && leb unit unit_limit) (eqb unit 0) }
+// Whether the units rise, from 1 to the last.
+#[tactic(auto, unfolding(crate::specs::Lay::rising))]
+fn rises(units: &[u8]) -> bool
+    ensures { result ≡ rising 0 units.now }
 {
-    (used & ((low < unit) & (unit <= Layout::LAST_UNIT))) | (!used & (unit == 0))
+    let mut low = 0;
+    for unit in units {
+        if *unit <= low || Layout::LAST_UNIT < *unit {
+            return false;
+        }
+        low = *unit;
+    }
+    true
 }
 
-// A set of the layout, or a blank behind the last.
-pub(crate) fn good_chain(used: bool, c: Chain) -> bool
-    ensures { result ≡ cond used (good_set (units_in c) && tidy_chain c) (tidy_chain c && eqb c.count 0) }
+// Whether no unit stands here.
+fn are_blank(units: &[u8]) -> bool
+    requires { length units.now ≤ set_limit }
+    ensures { result ≡ zeros set_limit units.now }
 {
-    let n = c.count;
-    let units = c.units;
-    let first = good_unit(0 < n, 0, units[0]);
-    let second = good_unit(1 < n, units[0], units[1]);
-    let third = good_unit(2 < n, units[1], units[2]);
-    let fourth = good_unit(3 < n, units[2], units[3]);
-    first & second & third & fourth & (n <= Chain::MOST) & ((used & (0 < n)) | (!used & (n == 0)))
+    units.iter().all(|unit| *unit == 0)
 }
 
-// Every set, and every blank behind them.
-pub(crate) fn good_chains(l: Layout) -> bool
+// Whether a chain is blank past its units.
+fn ends_blank(c: &Chain) -> bool
+    ensures { result ≡ zeros set_limit (drop c.now.count c.now.units) }
+{
+    are_blank(&c.units[c.units().len()..])
+}
+
+// A good set, and blank past its units.
+#[tactic(auto, unfolding(crate::specs::Lay::good_set, crate::specs::Value::tidy_chain))]
+pub(crate) fn good_chain(c: &Chain) -> bool
+    ensures { result ≡ good_set (units_in c.now) && tidy_chain c.now }
+{
+    1 <= c.count && c.count <= Chain::MOST && rises(c.units()) && ends_blank(c)
+}
+
+// No set.
+#[tactic(auto, unfolding(crate::specs::Value::tidy_chain))]
+fn is_no_chain(c: &Chain) -> bool
+    ensures { result ≡ tidy_chain c.now && eqb c.now.count 0 }
+{
+    c.count == 0 && ends_blank(c)
+}
+
+// Every one is a good set.
+pub(crate) fn good_chains(chains: &[Chain]) -> bool
+    ensures { result ≡ good_chains chains.now }
+{
+    chains.iter().all(|c| good_chain(c))
+}
+
+// None is a set.
+fn no_chains(chains: &[Chain]) -> bool
+    ensures { result ≡ tidy_chains 0 chains.now }
+{
+    chains.iter().all(|c| is_no_chain(c))
+}
+
+// Every set is good, and behind them there are none.
+#[tactic(auto, using(crate::proofs::TidyChains::chains_split, crate::proofs::Take::past_front), unfolding(crate::specs::Value::lay_of))]
+fn good_sets(l: Layout) -> bool
     ensures { result ≡ good_sets (lay_of l).sets && tidy_chains l.set_count l.sets }
 {
-    let n = size(l.set_count);
-    let mut ok = true;
-    let mut i: usize = 0;
-    while i < Layout::SETS {
-        let c = l.sets[i];
-        ok = ok & good_chain(i < n, c);
-        i += 1;
-    }
-    ok
+    good_chains(l.sets()) && no_chains(&l.sets[l.sets().len()..])
 }
 
-// A range of the layout, the first or above `last`; or a blank behind the last range.
-fn good_range(used: bool, first: bool, last: u64, r: Range) -> bool
-    ensures { result ≡ cond used ((first || ltb last r.start.0) && ltb r.start.0 limit && leb 1 r.sets) (eqb r.start.0 0 && eqb r.sets 0) }
+// Whether the starts rise below the limit of positions, and each range uses a set.
+#[tactic(auto, unfolding(crate::specs::Lay::good_spans))]
+fn good_starts(ranges: &[Range]) -> bool
+    ensures { result ≡ good_spans 0 (map span_in ranges.now) }
 {
-    let start = r.start.0;
-    let sets = r.sets;
-    (used & ((first | (last < start)) & (start < Position::LIMIT) & (1 <= sets)))
-        | (!used & ((start == 0) & (sets == 0)))
+    let mut low = 0;
+    for r in ranges {
+        let start = r.start.0;
+        if !(low <= start && start < Position::LIMIT && 1 <= r.sets) {
+            return false;
+        }
+        low = start + 1;
+    }
+    true
 }
 
-// Every range, and every blank behind them.
+// None is a range.
+fn no_ranges(ranges: &[Range]) -> bool
+    ensures { result ≡ blank_ranges ranges.now }
+{
+    ranges.iter().all(|r| r.start.0 == 0 && r.sets == 0)
+}
+
+// Every range is good, and behind them there are none.
+#[tactic(auto, using(crate::proofs::Take::past_front), unfolding(crate::specs::Value::lay_of))]
 fn good_ranges(l: Layout) -> bool
     ensures { result ≡ good_spans 0 (lay_of l).spans && blank_ranges (drop l.range_count l.ranges) }
 {
-    let n = size(l.range_count);
-    let mut ok = true;
-    let mut last: u64 = 0;
-    let mut i: usize = 0;
-    while i < Layout::RANGES {
-        let r = l.ranges[i];
-        ok = ok & good_range(i < n, i == 0, last, r);
-        last = r.start.0;
-        i += 1;
-    }
-    ok
+    good_starts(l.ranges()) && no_ranges(&l.ranges[l.ranges().len()..])
 }
 
 // How many sets the ranges use.
-fn sets_used(l: Layout) -> usize
-    ensures { result ≡ used (lay_of l).spans }
+#[tactic(auto, using(crate::proofs::Used::used_is))]
+fn sets_used(ranges: &[Range]) -> usize
+    requires { length ranges.now ≤ ranges_limit }
+    ensures { result ≡ used (map span_in ranges.now) }
 {
-    let n = size(l.range_count);
-    let mut total: usize = 0;
-    let mut i: usize = 0;
-    while i < Layout::RANGES {
-        let r = l.ranges[i];
-        total = total + size(pick(i < n, r.sets, 0));
-        i += 1;
-    }
-    total
+    ranges.iter().map(|r| usize::from(r.sets)).sum()
 }
 
 // The value is that of a good layout.
@@ -99,7 +129,7 @@ pub fn is_good(l: Layout) -> bool
         & (1 <= ranges)
         & (ranges <= Layout::RANGES)
         & (first.start.0 == 0)
-        & good_chains(l)
+        & good_sets(l)
         & good_ranges(l)
-        & (sets_used(l) == sets)
+        & (sets_used(l.ranges()) == sets)
 }

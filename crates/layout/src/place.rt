@@ -1,209 +1,150 @@
 // Where a position belongs, and the units of a layout in rising number.
-ghost use Rattle.std.specs.Prelude.{◌≡◌, true, map, min, ◌≤◌, length, take};
-ghost use Rattle.layout.specs.Lay.{good, ◌in?◌, in_sets};
-ghost use Rattle.layout.specs.Value.{lay_of, units_in};
-ghost use Rattle.layout.specs.Places.{set_number, place_answer, placed_at, units_at, head_of, tail_of, after, next_unit};
+ghost use Rattle.std.specs.Prelude.{◌≡◌, ◌==◌, position, slice_get, true, map, ◌≤◌, length};
+ghost use Rattle.num.specs.Refusals.{answered};
+ghost use Rattle.layout.specs.Lay.{ranges_limit, good, good_spans, ◌in?◌, in_sets};
+ghost use Rattle.layout.specs.Value.{lay_of, units_in, span_in};
+ghost use Rattle.layout.specs.Places.{placed, set_number, or_zero, FromOne, place_answer, placed_in, placed_at, units_at, head_of, tail_of, after, next_unit};
 
 use crate::good::is_good;
-use crate::{Chain, Layout};
-use num::Position;
-use num::answer::{Answer, pick};
-use num::bytes::{size, wide};
-
-// The number of a position's set, counted from 0.
-#[derive(Clone, Copy)]
-pub struct Placed {
-    pub answer: u8,
-    pub set: u8,
-}
+use crate::{Chain, Layout, Range};
+use num::refusal::{Refusal, lowest};
+use num::{Position, units};
 
 impl Layout {
     // Units are numbered from 1 to it.
-    pub const LAST_UNIT: u8 = 8;
+    pub const LAST_UNIT: u8 = units::LAST;
 }
 
-// A count, or the room that there is for what is counted.
-pub(crate) fn clip(count: u8, room: usize) -> usize
-    ensures { result ≡ min count room }
-{
-    let n = size(count);
-    if n <= room { n } else { room }
-}
-
-// How many sets there are.
-pub(crate) fn set_total(l: Layout) -> usize
-    ensures { (result ≡ length (lay_of l).sets) × (result ≤ 16) }
-{
-    clip(l.set_count, Layout::SETS)
-}
-
-// How many ranges there are.
-pub(crate) fn range_total(l: Layout) -> usize
-    ensures { (result ≡ length (lay_of l).spans) × (result ≤ 8) }
-{
-    clip(l.range_count, Layout::RANGES)
-}
-
-// Whether `u` is one of these units.
-pub(crate) fn among(units: &[u8], u: u8) -> bool
-    ensures { result ≡ u in? units.now }
-{
-    let mut found = false;
-    let mut i = 0;
-    while i < units.len() {
-        found = found | (u == units[i]);
-        i += 1;
+impl Chain {
+    // Whether `unit` is in the set.
+    #[tactic(auto, using(crate::proofs::Found::contains_is))]
+    pub(crate) fn holds(&self, unit: u8) -> bool
+        ensures { result ≡ unit in? units_in self.now }
+    {
+        self.units().contains(&unit)
     }
-    found
 }
 
-// Whether `u` is in the set.
-pub(crate) fn holds(c: Chain, u: u8) -> bool
-    ensures { result ≡ u in? units_in c }
+// Whether `u` is in one of the sets.
+pub(crate) fn in_sets(sets: &[Chain], u: u8) -> bool
+    ensures { result ≡ in_sets u (map units_in sets.now) }
 {
-    let n = clip(c.count, Chain::UNITS);
-    let units = c.units;
-    among(&units[..n], u)
+    sets.iter().any(|c| c.holds(u))
 }
 
-// Whether `u` is in one of the first `count` sets.
-pub(crate) fn in_sets(sets: [Chain; Layout::SETS], count: u8, u: u8) -> bool
-    ensures { result ≡ in_sets u (map units_in (take count sets)) }
+// The number of the set that `p` belongs to, by the ranges of a good layout.
+#[tactic(auto, using(crate::proofs::SetNumber::uses_some), unfolding(crate::specs::Places::placed))]
+fn number_by(ranges: &[Range], p: u64) -> u64
+    requires good { good_spans 0 (map span_in ranges.now) ≡ true }
+    requires few { length ranges.now ≤ ranges_limit }
+    ensures { result ≡ placed (map span_in ranges.now) 0 0 p }
 {
-    let n = clip(count, Layout::SETS);
-    let mut found = false;
-    let mut i = 0;
-    while i < n {
-        let c = sets[i];
-        found = found | holds(c, u);
-        i += 1;
-    }
-    found
-}
-
-// The last of these units; 0 where there is none.
-pub(crate) fn last_of(units: &[u8]) -> u8
-    ensures { result ≡ tail_of units.now }
-{
-    let n = units.len();
-    if 0 < n { units[n - 1] } else { 0 }
-}
-
-// The unit after `u`; 0 where there is none.
-pub(crate) fn next_of(units: &[u8], u: u8) -> u8
-    ensures { result ≡ after u units.now }
-{
-    let mut next = 1;
-    while next < units.len() {
-        if u == units[next - 1] {
-            return units[next];
+    let mut before: u64 = 0;
+    let mut found: u64 = 0;
+    for r in ranges {
+        let start = r.start.0;
+        let uses = u64::from(r.sets);
+        if start <= p {
+            found = before + (p - start) % uses;
         }
-        next += 1;
+        before += uses;
     }
-    0
+    found
 }
 
 // The number of the set that `p` belongs to.
+#[tactic(auto, unfolding(crate::specs::Value::lay_of, crate::specs::Places::set_number))]
 fn number_of(l: Layout, p: Position) -> usize
     requires { good (lay_of l) ≡ true }
     ensures { result ≡ set_number (lay_of l) p.0 }
 {
-    let at = p.0;
-    let n = clip(l.range_count, Layout::RANGES);
-    let mut before: u64 = 0;
-    let mut found: u64 = 0;
-    let mut i = 0;
-    while i < n {
-        let r = l.ranges[i];
-        let start = r.start.0;
-        let uses = wide(r.sets);
-        if start <= at {
-            found = before + (at - start) % uses;
-        }
-        before = before + uses;
-        i += 1;
-    }
-    found as usize
+    number_by(l.ranges(), p.0) as usize
 }
 
-// 0 where `p` has a set.
-fn answer_at(l: Layout, p: Position) -> u8
-    ensures { result ≡ place_answer l p.0 }
+// Why `p` has no set.
+#[tactic(auto, unfolding(crate::specs::Places::place_answer))]
+fn answer_at(l: Layout, p: Position) -> Result<(), Refusal>
+    ensures { answered result ≡ place_answer l p.0 }
 {
-    let refused = pick(!is_good(l), Answer::LAYOUT, Answer::FINE);
-    pick(Position::LIMIT <= p.0, Answer::POSITION, refused)
+    lowest(&[
+        Refusal::Position.when(Position::LIMIT <= p.0),
+        Refusal::Layout.when(!is_good(l)),
+    ])
 }
 
 // The set that `p` belongs to: its number, counted from 0.
-pub fn set_of(l: Layout, p: Position) -> Placed
-    ensures { result ≡ placed_at l p.0 }
+#[tactic(auto, using(crate::proofs::PlaceAnswer::place_fine, crate::proofs::PlaceAnswer::number_small), unfolding(crate::specs::Places::placed_at))]
+pub fn set_of(l: Layout, p: Position) -> Result<u8, Refusal>
+    ensures { placed_in result ≡ placed_at l p.0 }
 {
-    let answer = answer_at(l, p);
-    if answer == Answer::FINE {
-        Placed {
-            answer: Answer::FINE,
-            set: number_of(l, p) as u8,
-        }
-    } else {
-        Placed { answer, set: 0 }
+    answer_at(l, p)?;
+    Ok(number_of(l, p) as u8)
+}
+
+// The units of the set that `p` belongs to; none where it is refused.
+#[tactic(auto, using(crate::proofs::PlaceAnswer::found))]
+fn units_at(l: &Layout, p: Position) -> &[u8]
+    ensures { result.now ≡ units_at l.now p.0 }
+{
+    match set_of(*l, p) {
+        Ok(k) => l.sets[usize::from(k)].units(),
+        Err(_) => &[],
     }
 }
 
-// The set that `p` belongs to; a blank one where it is refused.
-fn chain_at(l: Layout, p: Position) -> Chain
-    ensures { units_in result ≡ units_at l p.0 }
+// The head of the set that `p` belongs to.
+#[tactic(auto, using(crate::proofs::HeadAndTail::first_is))]
+pub fn head_at(l: Layout, p: Position) -> Option<u8>
+    ensures unit { or_zero result ≡ head_of (units_at l p.0) }
+    ensures from_one { FromOne result }
 {
-    if answer_at(l, p) == Answer::FINE {
-        let k = number_of(l, p);
-        l.sets[k]
-    } else {
-        Chain {
-            count: 0,
-            units: [0u8; Chain::UNITS],
+    units_at(&l, p).first().copied()
+}
+
+// The tail of the set that `p` belongs to.
+#[tactic(auto, using(crate::proofs::HeadAndTail::last_is))]
+pub fn tail_at(l: Layout, p: Position) -> Option<u8>
+    ensures unit { or_zero result ≡ tail_of (units_at l p.0) }
+    ensures from_one { FromOne result }
+{
+    units_at(&l, p).last().copied()
+}
+
+// Where `u` stands among these units. Apart from `unit_after`: behind a `?` no proof knows what a chain found.
+fn place_among(units: &[u8], u: u8) -> Option<usize>
+    ensures { result ≡ position (λ x. u == x) units.now }
+{
+    units.iter().position(|unit| u == *unit)
+}
+
+// The unit at a place among these. Apart too: of an element that `get` lends its caller's proof knows only the place.
+fn unit_at(units: &[u8], at: usize) -> Option<u8>
+    ensures { result ≡ slice_get units.now at }
+{
+    units.get(at).copied()
+}
+
+// The unit after `u` in the set that `p` belongs to.
+#[tactic(auto, using(crate::proofs::NextUnit::after_found))]
+pub fn unit_after(l: Layout, p: Position, u: u8) -> Option<u8>
+    ensures unit { or_zero result ≡ after u (units_at l p.0) }
+    ensures from_one { FromOne result }
+{
+    let units = units_at(&l, p);
+    let at = place_among(units, u)?;
+    unit_at(units, at + 1)
+}
+
+// The next unit of the layout above `u`, in rising number.
+#[tactic(auto, using(crate::proofs::NextUnit::above_here, crate::proofs::NextUnit::above_later, crate::proofs::NextUnit::above_none), unfolding(crate::specs::Value::lay_of, crate::specs::Lay::units_of))]
+pub fn next_unit(l: Layout, u: u8) -> Option<u8>
+    ensures unit { or_zero result ≡ next_unit (lay_of l) u }
+    ensures from_one { FromOne result }
+{
+    for k in 1..=Layout::LAST_UNIT {
+        if (u < k) & in_sets(l.sets(), k) {
+            return Some(k);
         }
     }
-}
-
-// The head of the set that `p` belongs to; 0 where there is none.
-pub fn head_at(l: Layout, p: Position) -> u8
-    ensures { result ≡ head_of (units_at l p.0) }
-{
-    let c = chain_at(l, p);
-    let units = c.units;
-    pick(0 < c.count, units[0], 0)
-}
-
-// The tail of the set that `p` belongs to; 0 where there is none.
-pub fn tail_at(l: Layout, p: Position) -> u8
-    ensures { result ≡ tail_of (units_at l p.0) }
-{
-    let c = chain_at(l, p);
-    let n = clip(c.count, Chain::UNITS);
-    let units = c.units;
-    last_of(&units[..n])
-}
-
-// The unit after `u` in the set that `p` belongs to; 0 where there is none.
-pub fn unit_after(l: Layout, p: Position, u: u8) -> u8
-    ensures { result ≡ after u (units_at l p.0) }
-{
-    let c = chain_at(l, p);
-    let n = clip(c.count, Chain::UNITS);
-    let units = c.units;
-    next_of(&units[..n], u)
-}
-
-// The next unit of the layout above `u`, in rising number; 0 where there is none.
-pub fn next_unit(l: Layout, u: u8) -> u8
-    ensures { result ≡ next_unit (lay_of l) u }
-{
-    let sets = l.sets;
-    let mut k: u8 = 1;
-    while k <= Layout::LAST_UNIT {
-        if (u < k) & in_sets(sets, l.set_count, k) {
-            return k;
-        }
-        k += 1;
-    }
-    0
+    None
 }

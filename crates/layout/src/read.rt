@@ -1,126 +1,84 @@
 // A layout from its bytes: what they would say is read first, past their end as 0, and then the layout's own bytes are compared with them.
-ghost use Rattle.std.specs.Prelude.{◌≡◌, cond, map, ◌+◌, ◌*◌, ◌≤◌, get_or, take, drop, set};
-ghost use Rattle.layout.specs.Value.{padded, no_chain, no_range, chain_of, range_of, value_of, blank};
-ghost use Rattle.layout.specs.Codec.{set_front, span_front, sets_at, past_sets, spans_at, decode, same, size_limit, LayoutRead};
+ghost use Rattle.std.specs.Prelude.{◌≡◌, true, map, get_or, drop};
+ghost use Rattle.num.specs.Refusals.{answered, given};
+ghost use Rattle.layout.specs.Value.{padded, no_chain, no_range, chain_of, range_of, value_of, good_value, blank};
+ghost use Rattle.layout.specs.Codec.{set_front, span_front, sets_at, past_sets, spans_at, decode, same, bytes_of, LayoutRead};
 
-use crate::encoded::{Encoded, bytes_of};
+use crate::encoded::bytes_of;
 use crate::good::is_good;
 use crate::{Chain, Layout, Range};
-use num::answer::{Answer, pick};
 use num::bytes::{number_at, size};
+use num::refusal::Refusal;
 use num::{Epoch, Position};
+use std::array;
 
 // The byte at `at`; 0 past the end.
 pub fn byte_at(b: &[u8], at: usize) -> u8
     ensures { result ≡ get_or b.now at 0 }
 {
-    if at < b.len() { b[at] } else { 0 }
+    b.get(at).copied().unwrap_or(0)
 }
 
-// The set whose count stands at `at`.
-pub(crate) fn chain_from(b: &[u8], at: usize) -> Chain
-    requires { at ≤ 1000000 }
-    ensures { result ≡ chain_of (set_front (drop at b.now)) }
+// What stands behind the first `n` bytes.
+pub(crate) fn behind(b: &[u8], n: usize) -> &[u8]
+    ensures { result.now ≡ drop n b.now }
 {
-    let n = byte_at(b, at);
-    let first = pick(0 < n, byte_at(b, at + 1), 0);
-    let second = pick(1 < n, byte_at(b, at + 2), 0);
-    let third = pick(2 < n, byte_at(b, at + 3), 0);
-    let fourth = pick(3 < n, byte_at(b, at + 4), 0);
-    Chain {
-        count: n,
-        units: [first, second, third, fourth],
-    }
+    &b[n.min(b.len())..]
 }
 
-// Sets that were read, and where the bytes behind them start.
-#[derive(Clone, Copy)]
-pub(crate) struct Sets {
-    pub(crate) sets: [Chain; Layout::SETS],
-    pub(crate) past: usize,
-}
-
-// One set more, the `i`th.
-fn with_chain(mut s: Sets, i: usize, c: Chain) -> Sets
-    requires { s.past ≤ 1000000 }
-    ensures { (result.sets ≡ set s.sets i c) × ((result.past ≡ s.past + (1 + c.count)) × (result.past ≤ s.past + 256)) }
+// The set at the front: its count and its units.
+pub(crate) fn chain_from(b: &[u8]) -> Chain
+    ensures { result ≡ chain_of (set_front b.now) }
 {
-    s.past = s.past + (1 + size(c.count));
-    if i < Layout::SETS {
-        s.sets[i] = c;
-    }
-    s
+    let count = byte_at(b, 0);
+    let units = array::from_fn(|i| if i < size(count) {
+        byte_at(b, 1 + i)
+    } else {
+        0
+    });
+    Chain { count, units }
 }
 
-// The `n` sets from `at` on; there is room for 16, and the others are passed over.
-pub(crate) fn sets_from(b: &[u8], at: usize, n: usize) -> Sets
-    requires { (at ≤ 1000) × (n ≤ 255) }
-    ensures { (result.sets ≡ padded 16 no_chain (map chain_of (sets_at n (drop at b.now))))
-        × ((drop result.past b.now ≡ past_sets n (drop at b.now)) × (result.past ≤ at + 256 * n)) }
+// The `n` sets at the front, and what stands behind them; there is room for 16, and the others are passed over.
+pub(crate) fn sets_from(b: &[u8], n: u8) -> ([Chain; Layout::SETS], &[u8])
+    ensures sets { result.0 ≡ padded 16 no_chain (map chain_of (sets_at n b.now)) }
+    ensures rest { result.1.now ≡ past_sets n b.now }
 {
-    let mut s = Sets {
-        sets: [Chain {
-            count: 0,
-            units: [0u8; Chain::UNITS],
-        }; Layout::SETS],
-        past: at,
-    };
-    let mut i: usize = 0;
-    while i < n {
-        let c = chain_from(b, s.past);
-        s = with_chain(s, i, c);
-        i += 1;
+    let mut sets = [Chain::blank(); Layout::SETS];
+    let mut rest = b;
+    for i in 0..size(n) {
+        let c = chain_from(rest);
+        if i < Layout::SETS {
+            sets[i] = c;
+        }
+        rest = behind(rest, 1 + size(c.count));
     }
-    s
+    (sets, rest)
 }
 
-// The range whose start stands at `at`.
-fn range_from(b: &[u8], at: usize) -> Range
-    requires { at ≤ 1000000 }
-    ensures { result ≡ range_of (span_front (drop at b.now)) }
+// The range at the front.
+fn range_from(b: &[u8]) -> Range
+    ensures { result ≡ range_of (span_front b.now) }
 {
     Range {
-        start: Position(number_at(b, at, 8)),
-        sets: byte_at(b, at + 8),
+        start: Position(number_at(b, 0, 8)),
+        sets: byte_at(b, 8),
     }
 }
 
-// Ranges that were read.
-#[derive(Clone, Copy)]
-struct Ranges {
-    ranges: [Range; Layout::RANGES],
-}
-
-// One range more, the `i`th.
-fn with_range(mut s: Ranges, i: usize, r: Range) -> Ranges
-    ensures { result.ranges ≡ set s.ranges i r }
+// The `n` ranges at the front; there is room for 8.
+fn ranges_from(b: &[u8], n: u8) -> [Range; Layout::RANGES]
+    ensures { result ≡ padded 8 no_range (map range_of (spans_at n b.now)) }
 {
-    if i < Layout::RANGES {
-        s.ranges[i] = r;
+    let mut ranges = [Range::blank(); Layout::RANGES];
+    let mut rest = b;
+    for i in 0..size(n) {
+        if i < Layout::RANGES {
+            ranges[i] = range_from(rest);
+        }
+        rest = behind(rest, 9);
     }
-    s
-}
-
-// The `n` ranges from `at` on; there is room for 8.
-fn ranges_from(b: &[u8], at: usize, n: usize) -> Ranges
-    requires { (at ≤ 900000) × (n ≤ 255) }
-    ensures { result.ranges ≡ padded 8 no_range (map range_of (spans_at n (drop at b.now))) }
-{
-    let mut s = Ranges {
-        ranges: [Range {
-            start: Position(0),
-            sets: 0,
-        }; Layout::RANGES],
-    };
-    let mut past = at;
-    let mut i: usize = 0;
-    while i < n {
-        let r = range_from(b, past);
-        s = with_range(s, i, r);
-        past = past + 9;
-        i += 1;
-    }
-    s
+    ranges
 }
 
 // What the bytes would say, were they those of a layout.
@@ -128,63 +86,38 @@ fn parsed(b: &[u8]) -> Layout
     ensures { result ≡ value_of (decode b.now) }
 {
     let epoch = number_at(b, 0, 4) as u32;
-    let shape = byte_at(b, 4);
-    let at = 6 + size(byte_at(b, 5));
-    let count = byte_at(b, at);
-    let s = sets_from(b, at + 1, size(count));
-    let past = s.past;
-    let sets = s.sets;
-    let uses = byte_at(b, past);
-    let t = ranges_from(b, past + 1, size(uses));
-    let ranges = t.ranges;
+    let past_units = behind(b, 6 + size(byte_at(b, 5)));
+    let set_count = byte_at(past_units, 0);
+    let (sets, past_sets) = sets_from(behind(past_units, 1), set_count);
+    let range_count = byte_at(past_sets, 0);
     Layout {
         epoch: Epoch(epoch),
-        shape,
-        set_count: count,
+        shape: byte_at(b, 4),
+        set_count,
         sets,
-        range_count: uses,
-        ranges,
+        range_count,
+        ranges: ranges_from(behind(past_sets, 1), range_count),
     }
 }
 
-// Whether the bytes are the layout's own: as many, and the same.
-fn same_bytes(e: Encoded, b: &[u8]) -> bool
-    requires { e.count ≤ size_limit }
-    ensures { result ≡ same (take e.count e.bytes) b.now }
+// Whether the bytes are the good layout's own: as many, and the same.
+#[tactic(auto, using(crate::proofs::Same::same_is))]
+fn are_own(l: Layout, b: &[u8]) -> bool
+    requires { good_value l ≡ true }
+    ensures { result ≡ same (bytes_of l) b.now }
 {
-    let n = e.count;
-    if b.len() != n {
-        return false;
-    }
-    let mut ok = true;
-    let mut i: usize = 0;
-    while i < n {
-        ok = ok & (e.bytes[i] == b[i]);
-        i += 1;
-    }
-    ok
+    let own = bytes_of(l);
+    own.as_slice() == b
 }
 
-fn or_blank(taken: bool, l: Layout) -> Layout
-    ensures { result ≡ cond taken l blank }
-{
-    if taken { l } else { Layout::blank() }
-}
-
-#[derive(Clone, Copy)]
-pub struct Read {
-    pub answer: u8,
-    pub layout: Layout,
-}
-
-// The layout that the bytes are; 10 and no layout where they are those of no good layout.
-pub fn read_layout(b: &[u8]) -> Read
-    ensures { LayoutRead b.now result.answer result.layout }
+// The layout that the bytes are; refused where they are those of no good layout.
+pub fn read_layout(b: &[u8]) -> Result<Layout, Refusal>
+    ensures { LayoutRead b.now (answered result) (given blank result) }
 {
     let l = parsed(b);
-    let taken = is_good(l) & same_bytes(bytes_of(l), b);
-    Read {
-        answer: pick(!taken, Answer::LAYOUT, Answer::FINE),
-        layout: or_blank(taken, l),
+    if is_good(l) && are_own(l, b) {
+        Ok(l)
+    } else {
+        Err(Refusal::Layout)
     }
 }

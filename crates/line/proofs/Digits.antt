@@ -72,6 +72,27 @@ pub decimal_few : (w n : ℕ) → n < 10 ^ suc w → length (decimal n) ≤ suc 
 unfolding decimal
 decimal_few w n h = digits_few 20 w n h
 
+-- ---- room for more digits changes none
+
+digits_wider : (k n : ℕ) → n < 10 ^ suc k → digits (suc (suc k)) n ≡ digits (suc k) n
+digits_wider zero n h = let small : n < 10 = omega arith in rw (digits_one 1 n small, digits_one 0 n small)
+digits_wider (suc k) n h = go (sized n) (digits_wider k (n / 10) (shorter (suc k) n h))
+  where
+    go : Sized n → digits (suc (suc k)) (n / 10) ≡ digits (suc k) (n / 10) → digits (suc (suc (suc k))) n ≡ digits (suc (suc k)) n
+    go (one s) ih = rw (digits_one (suc (suc k)) n s, digits_one (suc k) n s)
+    go (more s) ih = rw (digits_more (suc (suc k)) n s, digits_more (suc k) n s, ih)
+
+pub decimal_one : (n : ℕ) → n ≤ 9 → decimal n ≡ digit (n % 10) ∷ []
+unfolding decimal
+decimal_one n h = let same : n % 10 ≡ n = omega arith in rw same (digits_one 19 n (omega arith))
+
+pub decimal_more : (n : ℕ) → 9 < n → n < 10 ^ 20 → decimal n ≡ decimal (n / 10) ++ (digit (n % 10) ∷ [])
+unfolding decimal
+decimal_more n h small = rw (digits_more 19 n (omega arith), digits_wider 18 (n / 10) (shorter 19 n small))
+
+pub decimal_longer : (n : ℕ) → 9 < n → n < 10 ^ 20 → length (decimal n) ≡ length (decimal (n / 10)) + 1
+decimal_longer n h small = rw (decimal_more n h small) (snoc_length (decimal (n / 10)) (digit (n % 10)))
+
 -- ---- read back by Horner's rule
 
 unfoldable pub horner : ℕ → List ℕ → ℕ

@@ -1,14 +1,14 @@
 -- Laws of hex: read back it is the byte, so two bytes never look the same; two digits a byte.
-use Prim.Native.Nat.{ℕ, suc, min, ◌+◌, ◌*◌, ◌-◌, ◌/◌, ◌%◌, ◌<◌, ◌≤◌}
+use Prim.Native.Nat.{ℕ, suc, ◌+◌, ◌*◌, ◌-◌, ◌/◌, ◌%◌, ◌<◌, ◌≤◌}
 use mathlib.Core.Bool.{Bool, true, false, cond}
-use mathlib.Core.List.{List, [], ◌∷◌}
+use mathlib.Core.List.{List, [], ◌∷◌, ◌++◌, append_assoc, append-nil}
 use mathlib.Core.Path.{◌≡◌, refl, sym, ap, ◌∙◌}
 use native.Mathlib.Omega.{arith}
 use borrow.Author.Tests.{lt-ltb, le-ltb, ltb-true, ltb-false}
 use lib.Dec.{ltb}
-use lib.ListN.{length, take, length-take}
+use lib.ListN.{length, get_or, take}
+use Rattle.std.proofs.lemmas.List.{take_more}
 use Rattle.num.proofs.Numbers.{Bytes}
-use Rattle.layout.proofs.Take.{take_clip}
 use Rattle.line.specs.Text.{dash, digit, hex_digit, hex_byte, hex_bytes, hex_text}
 
 pub hex_low : (d : ℕ) → d < 10 → hex_digit d ≡ digit d
@@ -69,23 +69,23 @@ unfolding hex_text
 text_some [] = omega arith
 text_some (b ∷ bs) = omega (arith, hex_length (b ∷ bs))
 
--- ---- the first `len` bytes, of which there are n
+-- ---- a byte more
 
-module _ (n len : ℕ) (bytes : List ℕ) (e : n ≡ min len (length bytes)) where
-  front : take len bytes ≡ take n bytes
-  front = sym (take_clip len (length bytes) bytes refl) ∙ rw (sym e)
+hex_append : (cs bs : List ℕ) → hex_bytes (cs ++ bs) ≡ hex_bytes cs ++ hex_bytes bs
+unfolding hex_bytes
+hex_append [] bs = refl
+hex_append (c ∷ cs) bs = rw (hex_append cs bs) (sym (append_assoc (hex_byte c) (hex_bytes cs) (hex_bytes bs)))
 
-  pub text_none : n ≡ 0 → hex_text (take len bytes) ≡ dash ∷ []
-  unfolding hex_text
-  text_none z = rw (front, z)
+pub hex_more : (bs : List ℕ) (i : ℕ) → i < length bs → hex_bytes (take (i + 1) bs) ≡ hex_bytes (take i bs) ++ hex_byte (get_or bs i 0)
+unfolding hex_bytes
+hex_more bs i h = rw (take_more bs i 0 h, hex_append (take i bs) (get_or bs i 0 ∷ [])) (rw append-nil)
 
-  pub text_front : (n ≡ 0 → ⊥) → hex_text (take len bytes) ≡ hex_bytes (take n bytes)
-  unfolding hex_text hex_bytes
-  text_front z = rw front (go (take n bytes) (λ l. z (omega (arith, length-take n bytes))))
-    where
-      go : (bs : List ℕ) → (length bs ≡ 0 → ⊥) → hex_text bs ≡ hex_bytes bs
-      go [] f = absurd (f refl)
-      go (b ∷ bs) f = refl
+pub text_none : (bs : List ℕ) → length bs ≡ 0 → hex_text bs ≡ dash ∷ []
+unfolding hex_text
+text_none [] h = refl
+text_none (b ∷ bs) h = absurd (omega (arith, h))
 
-  pub text_size : (n ≡ 0 → ⊥) → length (hex_text (take len bytes)) ≡ 2 * n
-  text_size z = rw (text_front z) (omega (arith, hex_length (take n bytes), length-take n bytes))
+pub text_of : (bs : List ℕ) → (length bs ≡ 0 → ⊥) → hex_text bs ≡ hex_bytes bs
+unfolding hex_text hex_bytes
+text_of [] h = absurd (h refl)
+text_of (b ∷ bs) h = refl

@@ -1,8 +1,6 @@
 -- The laws that other crates cite.
 pub mod Digits
 pub mod Hex
-pub mod Filling
-pub mod Spelling
 pub mod Putting
 pub mod Sizes
 pub mod Fitting

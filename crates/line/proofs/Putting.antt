@@ -1,19 +1,20 @@
 -- Texts put one behind the other.
-use Prim.Native.Nat.{ℕ}
-use mathlib.Core.List.{List, [], ◌++◌}
-use mathlib.Core.Path.{refl}
+use Prim.Native.Nat.{ℕ, ◌≤◌}
+use mathlib.Core.List.{List, [], ◌++◌, append-nil, append_assoc}
+use mathlib.Core.Path.{sym, ap, ◌∙◌}
 use native.Mathlib.Omega.{arith}
 use lib.ListN.{length-append}
-use Rattle.num.proofs.Storing.{stored_both}
-use Rattle.line.specs.Put.{IsPut}
+use Rattle.line.specs.declared.Line.{Line}
+use Rattle.line.specs.Put.{held, IsPut}
 
 -- nothing
-pub put_none : (line : List ℕ) (at : ℕ) → IsPut line at [] at line
-put_none line at = record { next_is = omega arith; line_is = refl }
+pub put_none : (a : Line) → a.count ≤ 256 → IsPut a [] a
+put_none a h = record { count_is = omega arith; fits = h; held_is = sym (append-nil (held a)) }
 
-module _ {a b : List ℕ} {i j : ℕ} {t : List ℕ} (p : IsPut a i t j b) where
-  pub put_both : {k : ℕ} {u c : List ℕ} → IsPut b j u k c → IsPut a i (t ++ u) k c
-  put_both {k} {u} {c} q = record {
-    next_is = omega (arith, p.next_is, q.next_is, length-append t u);
-    line_is = stored_both a b c i j t u p.line_is q.line_is p.next_is;
+module _ {a b : Line} {t : List ℕ} (p : IsPut a t b) where
+  pub put_both : {u : List ℕ} {c : Line} → IsPut b u c → IsPut a (t ++ u) c
+  put_both {u} {c} q = record {
+    count_is = omega (arith, p.count_is, q.count_is, length-append t u);
+    fits = q.fits;
+    held_is = q.held_is ∙ ap (λ (xs : List ℕ). xs ++ u) p.held_is ∙ append_assoc (held a) t u;
   }

@@ -1,14 +1,16 @@
 -- How long a line and its parts are: a line has 4 to 256 bytes, so none is empty, and the scratch has room for all.
-use Prim.Native.Nat.{ℕ, ◌+◌, ◌^◌, ◌<◌, ◌≤◌}
+use Prim.Native.Nat.{ℕ, min, ◌+◌, ◌^◌, ◌<◌, ◌≤◌}
 use mathlib.Core.Bool.{Bool, true, false, cond}
 use mathlib.Core.List.{List, [], ◌∷◌, ◌++◌}
-use mathlib.Core.Path.{◌≡◌}
+use mathlib.Core.Path.{◌≡◌, refl}
 use native.Mathlib.Omega.{arith}
 use lib.Dec.{eqb}
-use lib.ListN.{length, length-append, length-take}
+use lib.ListN.{length, take, length-append, length-take}
 use Rattle.client.specs.declared.Outcome.{Outcome}
 use Rattle.client.specs.declared.Page.{Page}
 use Rattle.client.specs.declared.Work.{Work}
+use Rattle.client.specs.declared.Work.TheVariants.{Append, Read, Fill, Trim, Prune, Reorganise}
+use Rattle.layout.proofs.Take.{take_clip}
 use Rattle.line.specs.Text.{line_end, space, colon, sent_word, decimal, word, hex_text}
 use Rattle.line.specs.Line.{payload_of, who_text, page_text, is_append, sent_text, end_text, line_of}
 use Rattle.line.proofs.Digits.{decimal_some, decimal_few}
@@ -25,6 +27,18 @@ who_size who number = omega (arith, length-append ((space ∷ colon ∷ []) ++ w
 pub page_size : (p : Page) → length (page_text p) ≡ length (word p.kind) + (1 + length (hex_text (payload_of p)))
 unfolding page_text
 page_size p = omega (arith, length-append (word p.kind) (space ∷ hex_text (payload_of p)))
+
+-- the first n bytes, no more than there are
+pub payload_is : (p : Page) (n : ℕ) → length p.bytes ≡ 80 → n ≡ min p.len 80 → take n p.bytes ≡ payload_of p
+payload_is p n h e = rw (e, ← h) (take_clip p.len (length p.bytes) p.bytes refl)
+
+pub other_work : (w : Work) → (w ≡ Append → ⊥) → is_append w ≡ false
+other_work Append h = absurd (h refl)
+other_work (Read p) h = refl
+other_work (Fill p) h = refl
+other_work (Trim p) h = refl
+other_work (Prune p) h = refl
+other_work Reorganise h = refl
 
 pub count_size : (n : ℕ) → length (sent_word ++ word n) ≡ 5 + length (word n)
 count_size n = omega (arith, length-append sent_word (word n))

@@ -1,5 +1,5 @@
 -- The line of one step: NUMBER ANSWER, and where an operation ended : CLIENT OUTCOME POSITION EPOCH KIND PAYLOAD; behind an append's, sent COUNT.
-use Rattle.std.specs.Prelude.{ℕ, ◌+◌, Bool, true, false, cond, List, [], ◌∷◌, ◌++◌, ◌≡◌, eqb, leb, length, take}
+use Rattle.std.specs.Prelude.{ℕ, ◌+◌, Bool, true, false, cond, List, [], ◌∷◌, ◌++◌, ◌≡◌, eqb, leb, length, take, Option, Some, None}
 use Rattle.std.proofs.lemmas.List.Edits.{sets}
 use Rattle.client.specs.declared.Outcome.{Outcome}
 use Rattle.client.specs.declared.Page.{Page}
@@ -43,7 +43,7 @@ line_of number answer who o = decimal number ++ word answer ++ cond (eqb who 0) 
 unfoldable pub fits : List ℕ → ℕ → List ℕ → Bool
 fits text at out = leb (at + length text) (length out)
 
--- the line stands whole from the offset on, or nothing is written; how long it is, or 0
-pub record IsLinePut (before : List ℕ) (at number answer who : ℕ) (o : Outcome) (r : ℕ) (after : List ℕ) : Type 0 where
-  pub count_is : r ≡ cond (fits (line_of number answer who o) at before) (length (line_of number answer who o)) 0
+-- the line stands whole from the offset on, or nothing is written; how long it is, where it stands
+pub record IsLinePut (before : List ℕ) (at number answer who : ℕ) (o : Outcome) (r : Option ℕ) (after : List ℕ) : Type 0 where
+  pub count_is : r ≡ cond (fits (line_of number answer who o) at before) (Some (length (line_of number answer who o))) None
   pub buffer_is : after ≡ cond (fits (line_of number answer who o) at before) (sets before at (line_of number answer who o)) before

@@ -3,6 +3,5 @@ pub mod Units
 pub mod Passing
 pub mod Telling
 pub mod Laying
-pub mod Reading
 pub mod Running
 pub mod Unique

@@ -23,8 +23,7 @@ use Rattle.layout.specs.Plan.{without, bad_drops, emptied, good_chains, planned,
 use Rattle.unit.specs.Rules.{fresh_answer}
 use Rattle.unit.proofs.Shapes.{sized}
 use Rattle.unit.proofs.Freshness.{fresh_fine, fresh_made}
-use Rattle.marked.specs.declared.ask.Row.{Row}
-use Rattle.marked.specs.declared.ask.Told.{Told}
+use Rattle.marked.specs.Rows.{Row, Told}
 use Rattle.marked.specs.Lays.{place_told, drop_told}
 use Rattle.marked.specs.Asks.{told_of, left_by}
 use Rattle.marked.specs.Table.{rows}

@@ -23,7 +23,7 @@ use Rattle.unit.proofs.Shapes.{sized, for_known, names_shape}
 use Rattle.unit.proofs.Holding.{encode_holds, says_held, report_held}
 use Rattle.marked.specs.declared.ask.Ask.{Ask}
 use Rattle.marked.specs.declared.ask.Ask.TheVariants.{Fresh, Write, Read, Trim, Prune, Seal, Measure, Fill, Floor, Place, Drop}
-use Rattle.marked.specs.declared.ask.Told.{Told}
+use Rattle.marked.specs.Rows.{Told}
 use Rattle.marked.specs.Lays.{told, place_told, drop_told}
 use Rattle.marked.specs.Asks.{sevens, data_at, fill_memory, fill_answer, told_of, left_by}
 

@@ -1,8 +1,7 @@
 -- What the program over the table promises: what each row is told.
 use Rattle.std.specs.Prelude.{ℕ, List, [], ◌∷◌, ◌≡◌}
 use Rattle.marked.specs.declared.Answered.{Answered}
-use Rattle.marked.specs.declared.ask.Row.{Row}
-use Rattle.marked.specs.declared.ask.Told.{Told}
+use Rattle.marked.specs.Rows.{Row, Told, all_told_in}
 use Rattle.marked.specs.Asks.{told_of, left_by}
 use Rattle.marked.specs.Table.{rows}
 
@@ -13,5 +12,5 @@ told_by (r ∷ rs) m = told_of m r.asked ∷ told_by rs (left_by m r.asked)
 
 -- each row is told that, and none expected another answer
 pub record IsAnswered (m : List ℕ) (r : Answered) : Type 0 where
-  pub told_is : r.told ≡ told_by rows m
+  pub told_is : all_told_in r.told ≡ told_by rows m
   pub none_wrong : r.wrong ≡ 0

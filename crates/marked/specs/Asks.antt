@@ -9,7 +9,7 @@ use Rattle.unit.specs.Unit.Request.{write, read, trim, prune, seal, measure}
 use Rattle.unit.specs.Rules.{fresh_answer, fresh_memory, answer, memory, reported}
 use Rattle.marked.specs.declared.ask.Ask.{Ask}
 use Rattle.marked.specs.declared.ask.Ask.TheVariants.{Fresh, Write, Read, Trim, Prune, Seal, Measure, Fill, Floor, Place, Drop}
-use Rattle.marked.specs.declared.ask.Told.{Told}
+use Rattle.marked.specs.Rows.{Told}
 use Rattle.marked.specs.Lays.{told, place_told, drop_told}
 
 -- so many bytes, each 7; at most 81, one more than any page holds

@@ -1,14 +1,12 @@
 -- Example 10's layout, and what the rules of the layouts answer of it.
-use Rattle.std.specs.Prelude.{ℕ, ◌%◌, List, [], ◌∷◌, get_or, replicate}
+use Rattle.std.specs.Prelude.{ℕ, ◌%◌, List, [], ◌∷◌, get_or}
 use Rattle.num.specs.Bytes.{number_at}
 use Rattle.layout.specs.declared.Chain.{Chain}
-use Rattle.layout.specs.declared.Wish.{Wish}
-use Rattle.layout.specs.declared.plan.Planned.{Planned}
-use Rattle.layout.specs.Value.{no_chain}
+use Rattle.layout.specs.Value.{no_wish}
 use Rattle.layout.specs.Codec.{read_layout}
 use Rattle.layout.specs.Places.{placed_at}
-use Rattle.layout.specs.Plan.{planned_for}
-use Rattle.marked.specs.declared.ask.Told.{Told}
+use Rattle.layout.specs.Plan.{Planned, planned_for}
+use Rattle.marked.specs.Rows.{Told}
 
 abbrev pub told : ℕ → ℕ → ℕ → Told
 told answer first second = record { answer = answer; first = first; second = second }
@@ -26,10 +24,6 @@ tenth =
 -- the set of a position, counted from 0
 unfoldable pub place_told : ℕ → Told
 place_told p = told (placed_at (read_layout tenth) p).answer (placed_at (read_layout tenth) p).set 0
-
--- no new sets
-abbrev pub no_wish : Wish
-no_wish = record { count = 0; sets = replicate 16 no_chain }
 
 -- what a reorganise that drops units a and b makes of the layout
 abbrev pub dropped : ℕ → ℕ → Planned

@@ -1,8 +1,7 @@
 -- The marked examples hold: one statement over the table, proved as `marked` in proofs/Passing.antt.
 use Rattle.std.specs.Prelude.{ℕ, zero, suc, ◌<◌, Bool, ◌&&◌, List, [], ◌∷◌, ◌≡◌, eqb, length, get_or}
 use Rattle.marked.specs.declared.ask.Ask.TheVariants.{Floor}
-use Rattle.marked.specs.declared.ask.Row.{Row}
-use Rattle.marked.specs.declared.ask.Told.{Told}
+use Rattle.marked.specs.Rows.{Row, Told}
 use Rattle.marked.specs.Lays.{told}
 use Rattle.marked.specs.Asks.{told_of, left_by}
 use Rattle.marked.specs.Table.{rows}

@@ -8,8 +8,7 @@ use Rattle.unit.specs.declared.shape.Shape.{Shape}
 use Rattle.unit.specs.Shape.{small, large}
 use Rattle.marked.specs.declared.ask.Ask.{Ask}
 use Rattle.marked.specs.declared.ask.Ask.TheVariants.{Fresh, Write, Read, Trim, Prune, Seal, Measure, Fill, Floor, Place, Drop}
-use Rattle.marked.specs.declared.ask.Told.{Told}
-use Rattle.marked.specs.declared.ask.Row.{Row}
+use Rattle.marked.specs.Rows.{Told, Row}
 use Rattle.marked.specs.Lays.{told}
 
 -- ---- what is asked, by epoch and position

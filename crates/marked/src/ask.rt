@@ -1,11 +1,12 @@
 // A row of the table: what is asked of a unit or of a layout, and what it must answer.
+use num::refusal::Refusal;
 use num::{Epoch, Position};
 
 #[derive(Clone, Copy)]
 pub enum Ask {
     // A fresh memory of the unit of that number, in the shape that the byte names.
     Fresh(u32, u8),
-    // A page of that kind with so many bytes.
+    // A page of that kind with so many bytes. The kind is a byte, as `unit::write::write` takes it from C: one that is none is refused.
     Write(Epoch, Position, u8, usize),
     Read(Epoch, Position),
     Trim(Epoch, Position),
@@ -23,14 +24,16 @@ pub enum Ask {
     Drop(u8, u8, usize),
 }
 
-// The number answered; of a read also the kind and the length, of an edge request the edge and the written edge, of the floor the floor; of a position the
+// What comes with a fine answer: of a read the kind and the length, of an edge request the edge and the written edge, of the floor the floor; of a position the
 // number of its set, counted from 0, of a set how many units it has and the units, a byte each, lowest first. 0 elsewhere.
-#[derive(Clone, Copy)]
-pub struct Told {
-    pub answer: u64,
+// Two numbers, and no variant for each: the theorem `RowsHold` compares the numbers of the rules' table, and `answered_once` knows an answer by them.
+#[derive(Clone, Copy, PartialEq, Eq)]
+pub struct Shown {
     pub first: u64,
     pub second: u64,
 }
+
+pub type Told = Result<Shown, Refusal>;
 
 #[derive(Clone, Copy)]
 pub struct Row {
@@ -40,9 +43,14 @@ pub struct Row {
     pub told: Told,
 }
 
-impl Row {
-    // Rows of the table, and the numbers that each has there.
-    pub const COUNT: usize = 84;
+impl Shown {
+    pub const NOTHING: Shown = Shown {
+        first: 0,
+        second: 0,
+    };
+}
 
-    pub const NUMBERS: usize = 9;
+impl Row {
+    // Rows of the table.
+    pub const COUNT: usize = 84;
 }

@@ -4,16 +4,14 @@
 ghost use Rattle.std.specs.Prelude.{◌≡◌, length, replicate};
 ghost use Rattle.marked.specs.Answering.{IsAnswered};
 
-use crate::ask::{Row, Told};
-use crate::row::row_at;
+use crate::ask::{Row, Shown, Told};
 use crate::show::show;
+use crate::table::table;
 use crate::tell::tell;
-use say::{number, text};
 use unit::memory::Unit;
 
 mod ask;
 mod lay;
-mod row;
 mod show;
 mod table;
 mod tell;
@@ -30,21 +28,15 @@ fn run(rt: &impl Print, mem: &mut [u8]) -> Answered
     requires { length mem.old ≡ 6168 }
     ensures { IsAnswered mem.old result }
 {
-    let none = Told {
-        answer: 0,
-        first: 0,
-        second: 0,
-    };
-    let mut told = [none; Row::COUNT];
+    let rows = table();
+    let mut told = [Ok(Shown::NOTHING); Row::COUNT];
     let mut wrong: u64 = 0;
-    let mut k: usize = 0;
-    while k < Row::COUNT {
-        let row = row_at(k);
-        let asked = row.asked;
-        let got = tell(mem, asked);
+    for (k, row) in rows.iter().enumerate() {
+        let got = tell(mem, row.asked);
         told[k] = got;
-        wrong += show(rt, row, got);
-        k += 1;
+        if !show(rt, *row, got) {
+            wrong += 1;
+        }
     }
     Answered { told, wrong }
 }
@@ -57,11 +49,9 @@ pub fn wrong_rows(rt: &impl Print) -> Answered
     let answered = run(rt, &mut mem);
     let wrong = answered.wrong;
     let rows = Row::COUNT as u64;
-    number(rt, rows);
-    text(rt, b" rows, ");
-    number(rt, rows - wrong);
-    text(rt, b" as expected, ");
-    number(rt, wrong);
-    text(rt, b" NOT as expected\n");
+    let _ = println!(rt;
+        "{rows} rows, {} as expected, {wrong} NOT as expected",
+        rows - wrong
+    );
     answered
 }

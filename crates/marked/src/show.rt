@@ -1,154 +1,97 @@
 // Printing a row: its example, what was asked, what was told, and whether that is what the row expects.
-ghost use Rattle.std.specs.Prelude.{◌≡◌, cond};
+ghost use Rattle.std.specs.Prelude.{◌≡◌};
+ghost use Rattle.marked.specs.Rows.{told_in};
 ghost use Rattle.marked.specs.Marked.{same_told};
 
 use crate::ask::{Ask, Row, Told};
-use num::answer::pick;
-use num::{Epoch, Position};
-use say::{number, text};
+use num::refusal::number_of;
+use std::fmt;
 
-fn say_at(rt: &impl Print, what: &[u8], e: Epoch, p: Position) {
-    text(rt, what);
-    text(rt, b" e");
-    number(rt, e.0 as u64);
-    text(rt, b" p");
-    number(rt, p.0);
+// Units, each by its number; a 0 names none.
+#[derive(Clone, Copy)]
+struct Units<const N: usize>([u8; N]);
+
+impl<const N: usize> fmt::Display for Units<N> {
+    fn fmt<W: fmt::Write>(&self, f: &mut fmt::Formatter<W>) -> fmt::Result {
+        for unit in &self.0 {
+            if *unit != 0 {
+                write!(f, " {unit}")?;
+            }
+        }
+        Ok(())
+    }
 }
 
-// A page's kind and length.
-fn say_page(rt: &impl Print, kind: u64, size: u64) {
+fn kind_name(kind: u64) -> &'static str {
     match kind {
-        1 => text(rt, b" data "),
-        2 => text(rt, b" junk "),
-        _ => text(rt, b" other "),
-    }
-    number(rt, size);
-    text(rt, b" bytes");
-}
-
-fn say_unit(rt: &impl Print, n: u64) {
-    if n != 0 {
-        text(rt, b" ");
-        number(rt, n);
+        1 => "data",
+        2 => "junk",
+        _ => "other",
     }
 }
 
-// The units of a set, a byte each.
-fn say_units(rt: &impl Print, n: u64) {
-    text(rt, b" units");
-    say_unit(rt, n % 256);
-    say_unit(rt, n / 256 % 256);
-    say_unit(rt, n / 65_536 % 256);
-    say_unit(rt, n / 16_777_216);
-}
-
-fn say_shape(rt: &impl Print, shape: u8) {
+fn shape_name(shape: u8) -> &'static str {
     match shape {
-        0 => text(rt, b"fresh small"),
-        1 => text(rt, b"fresh large"),
-        _ => text(rt, b"fresh other"),
+        0 => "small",
+        1 => "large",
+        _ => "other",
     }
 }
 
-fn say_asked(rt: &impl Print, asked: Ask) {
-    match asked {
-        Ask::Fresh(n, shape) => {
-            say_shape(rt, shape);
-            text(rt, b" unit ");
-            number(rt, n as u64);
-        }
-        Ask::Write(e, p, kind, size) => {
-            say_at(rt, b"write", e, p);
-            say_page(rt, kind as u64, size as u64);
-        }
-        Ask::Read(e, p) => say_at(rt, b"read", e, p),
-        Ask::Trim(e, p) => say_at(rt, b"trim", e, p),
-        Ask::Prune(e, p) => say_at(rt, b"prune", e, p),
-        Ask::Seal(n) => {
-            text(rt, b"seal e");
-            number(rt, n.0 as u64);
-        }
-        Ask::Measure => text(rt, b"ask for the edges"),
-        Ask::Fill(n) => {
-            text(rt, b"write e1 data 0 bytes at each position below ");
-            number(rt, n);
-        }
-        Ask::Floor => text(rt, b"look at the floor"),
-        Ask::Place(p) => {
-            text(rt, b"set of p");
-            number(rt, p.0);
-        }
-        Ask::Drop(a, b, k) => {
-            text(rt, b"drop unit");
-            say_unit(rt, a as u64);
-            say_unit(rt, pick(a == b, 0, b) as u64);
-            text(rt, b", set ");
-            number(rt, k as u64);
+impl fmt::Display for Ask {
+    fn fmt<W: fmt::Write>(&self, f: &mut fmt::Formatter<W>) -> fmt::Result {
+        match *self {
+            Ask::Fresh(n, shape) => write!(f, "fresh {} unit {n}", shape_name(shape)),
+            Ask::Write(e, p, kind, size) => {
+                let kind = kind_name(u64::from(kind));
+                write!(f, "write e{} p{} {kind} {size} bytes", e.0, p.0)
+            }
+            Ask::Read(e, p) => write!(f, "read e{} p{}", e.0, p.0),
+            Ask::Trim(e, p) => write!(f, "trim e{} p{}", e.0, p.0),
+            Ask::Prune(e, p) => write!(f, "prune e{} p{}", e.0, p.0),
+            Ask::Seal(e) => write!(f, "seal e{}", e.0),
+            Ask::Measure => write!(f, "ask for the edges"),
+            Ask::Fill(n) => write!(f, "write e1 data 0 bytes at each position below {n}"),
+            Ask::Floor => write!(f, "look at the floor"),
+            Ask::Place(p) => write!(f, "set of p{}", p.0),
+            Ask::Drop(a, b, k) => {
+                let other = if a == b { 0 } else { b };
+                write!(f, "drop unit{}, set {k}", Units([a, other]))
+            }
         }
     }
 }
 
 // The number answered, and what comes with a fine answer.
-fn say_told(rt: &impl Print, asked: Ask, told: Told) {
-    number(rt, told.answer);
-    if told.answer != 0 {
-        return;
-    }
-    match asked {
-        Ask::Read(_, _) => say_page(rt, told.first, told.second),
-        Ask::Measure => {
-            text(rt, b" edge ");
-            number(rt, told.first);
-            text(rt, b" written edge ");
-            number(rt, told.second);
+impl fmt::Display for Row {
+    fn fmt<W: fmt::Write>(&self, f: &mut fmt::Formatter<W>) -> fmt::Result {
+        let answer = number_of(self.told);
+        write!(f, "example {}: {}: {answer}", self.example, self.asked)?;
+        let Ok(shown) = self.told else {
+            return Ok(());
+        };
+        match self.asked {
+            Ask::Read(_, _) => write!(f, " {} {} bytes", kind_name(shown.first), shown.second),
+            Ask::Measure => write!(f, " edge {} written edge {}", shown.first, shown.second),
+            Ask::Floor => write!(f, " floor {}", shown.first),
+            Ask::Place(_) => write!(f, " set {}", shown.first),
+            Ask::Drop(_, _, _) => write!(f, " units{}", Units(shown.second.to_le_bytes())),
+            _ => Ok(()),
         }
-        Ask::Floor => {
-            text(rt, b" floor ");
-            number(rt, told.first);
-        }
-        Ask::Place(_) => {
-            text(rt, b" set ");
-            number(rt, told.first);
-        }
-        Ask::Drop(_, _, _) => say_units(rt, told.second),
-        _ => {}
     }
 }
 
-fn same(a: Told, b: Told) -> bool
-    ensures { result ≡ same_told a b }
+// Prints a row with what it was told, and says whether that is what it expects. What cannot be written is lost.
+pub(crate) fn show(rt: &impl Print, row: Row, got: Told) -> bool
+    ensures { result ≡ same_told (told_in got) (told_in row.told) }
 {
-    (a.answer == b.answer) & (a.first == b.first) & (a.second == b.second)
-}
-
-// Prints whether `got` is what was expected: 0 where it is, and otherwise 1.
-fn verdict(rt: &impl Print, got: Told, expected: Told) -> u64
-    ensures { result ≡ cond (same_told got expected) 0 1 }
-{
-    if same(got, expected) {
-        text(rt, b", as expected\n");
-        0
+    let right = got == row.told;
+    let verdict = if right {
+        "as expected"
     } else {
-        text(rt, b", NOT as expected\n");
-        1
-    }
-}
-
-fn say_row(rt: &impl Print, example: u64, asked: Ask, got: Told) {
-    text(rt, b"example ");
-    number(rt, example);
-    text(rt, b": ");
-    say_asked(rt, asked);
-    text(rt, b": ");
-    say_told(rt, asked, got);
-}
-
-// Prints a row and what it was told: 0 where that is what it expects, and otherwise 1.
-pub(crate) fn show(rt: &impl Print, row: Row, got: Told) -> u64
-    ensures { result ≡ cond (same_told got row.told) 0 1 }
-{
-    let asked = row.asked;
-    let told = row.told;
-    say_row(rt, row.example, asked, got);
-    verdict(rt, got, told)
+        "NOT as expected"
+    };
+    let row = Row { told: got, ..row };
+    let _ = println!(rt; "{row}, {verdict}");
+    right
 }

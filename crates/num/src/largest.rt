@@ -19,7 +19,7 @@ impl Edges {
 pub fn larger(a: Position, b: Position) -> Position
     ensures { result ≡ larger a b }
 {
-    if a.0 <= b.0 { b } else { a }
+    Position(a.0.max(b.0))
 }
 
 // The largest of what two seals tell, each by itself.

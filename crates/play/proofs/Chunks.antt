@@ -8,10 +8,15 @@ use borrow.Author.Tests.{leb-true}
 use lib.Dec.{leb}
 use lib.ListN.{length, drop, length-append, length-drop}
 use lib.Seq.{drop-drop}
+use Rattle.std.specs.Prelude.{Ok, Err}
+use Rattle.num.specs.declared.refusal.Refusal.{Refusal}
+use Rattle.num.specs.declared.refusal.Refusal.TheVariants.{Play}
+use Rattle.num.specs.Refusals.{number}
 use Rattle.script.specs.Play.{is_play, count_of}
+use Rattle.play.specs.declared.Shown.{Shown}
 use Rattle.play.specs.Fit.{joined, fit}
 use Rattle.play.specs.Text.{lines_of}
-use Rattle.play.specs.Shown.{shown_of, IsShown}
+use Rattle.play.specs.Shown.{shown_of, IsRun, IsShown}
 use Rattle.play.proofs.Reading.{plays}
 use Rattle.play.proofs.Running.{lines_count}
 
@@ -51,24 +56,48 @@ fit_room room (x ∷ xs) = go (leb (length x) room) refl (fit_room (room - lengt
 pub shown_front : (b : List ℕ) (from room : ℕ) → joined (shown_of b from room) ++ joined (drop (from - 1 + length (shown_of b from room)) (lines_of b)) ≡ joined (drop (from - 1) (lines_of b))
 shown_front b from room = rw (← drop-drop (length (shown_of b from room)) (from - 1) (lines_of b)) (fit_front room (drop (from - 1) (lines_of b)))
 
-module _ {b : List ℕ} {from : ℕ} {out : List ℕ} {lines written answer : ℕ} {out' : List ℕ} {lines' written' : ℕ} (is : IsShown b from out lines written answer out' lines' written') (fine : answer ≡ 0) where
+module _ {b : List ℕ} {from : ℕ} {out : List ℕ} {s : Shown} {out' : List ℕ} (is : IsRun b from out (Ok s) out') where
   yes : is_play b ≡ true
-  yes = go (is_play b) (sym fine ∙ is.answer_is)
+  yes = go (is_play b) refl
     where
-      go : (t : Bool) → ◌≡◌ {A = ℕ} 0 (cond t 0 22) → t ≡ true
-      go true e = refl
-      go false e = absurd (omega arith)
+      go : (t : Bool) → is_play b ≡ t → is_play b ≡ true
+      go true e = e
+      go false e = let none : Ok s ≡ Err Play = is.told_is ∙ rw e in absurd cc
+
+  shown_is : s ≡ record { lines = length (shown_of b from (length out)); written = length (joined (shown_of b from (length out))) }
+  shown_is = let both : Ok s ≡ Ok (record { lines = length (shown_of b from (length out)); written = length (joined (shown_of b from (length out))) }) = is.told_is ∙ rw yes in cc
 
   -- no more than are left of at most 65,536
-  pub lines_few : lines' ≤ 65536 - (from - 1)
+  pub lines_few : s.lines ≤ 65536 - (from - 1)
   lines_few =
       let play = plays b yes in
-      let told : lines' ≡ length (shown_of b from (length out)) = is.lines_is ∙ rw yes in
+      let told : s.lines ≡ length (shown_of b from (length out)) = ap (λ (x : Shown). x.lines) shown_is in
       let left : length (drop (from - 1) (lines_of b)) ≡ count_of b - (from - 1) = length-drop (from - 1) (lines_of b) ∙ rw (lines_count 0 (count_of b) b) in
       omega (arith, told, fit_few (length out) (drop (from - 1) (lines_of b)), left, play.few, play.short)
 
   -- within the buffer
-  pub bytes_few : written' ≤ length out
+  pub bytes_few : s.written ≤ length out
   bytes_few =
-      let told : written' ≡ length (joined (shown_of b from (length out))) = is.written_is ∙ rw yes in
+      let told : s.written ≡ length (joined (shown_of b from (length out))) = ap (λ (x : Shown). x.written) shown_is in
       omega (arith, told, fit_room (length out) (drop (from - 1) (lines_of b)))
+
+  -- the lent numbers of a caller in C
+  pub lent_shown : (lines written : ℕ) → IsShown b from out lines written 0 out' s.lines s.written
+  lent_shown lines written =
+      record {
+        answer_is = sym (rw yes);
+        out_is = is.out_is;
+        lines_is = rw (yes, shown_is);
+        written_is = rw (yes, shown_is);
+      }
+
+-- a file that is no play
+pub none_shown : {b : List ℕ} {from : ℕ} {out : List ℕ} {r : Refusal} {out' : List ℕ} (lines written : ℕ) → IsRun b from out (Err r) out' → IsShown b from out lines written (number r) out' lines written
+none_shown {b} {from} {out} {r} {out'} lines written is = go (is_play b) refl
+  where
+    go : (t : Bool) → is_play b ≡ t → IsShown b from out lines written (number r) out' lines written
+    go true e = let some : Err r ≡ Ok (record { lines = length (shown_of b from (length out)); written = length (joined (shown_of b from (length out))) }) = is.told_is ∙ rw e in absurd cc
+    go false e =
+        let both : Err r ≡ Err Play = is.told_is ∙ rw e in
+        let play : r ≡ Play = cc in
+        record { answer_is = rw (e, play); out_is = is.out_is; lines_is = sym (rw e); written_is = sym (rw e) }

@@ -2,17 +2,18 @@
 use Prim.Native.Nat.{ℕ, ◌+◌, ◌-◌, ◌≤◌, ◌<◌}
 use native.Mathlib.Nat.{add-zero, zero-add, sub-zero}
 use native.Mathlib.Omega.{arith}
-use mathlib.Core.Bool.{Bool, true, false, cond}
+use mathlib.Core.Bool.{Bool, true, false}
 use mathlib.Core.List.{List, [], ◌∷◌}
-use mathlib.Core.Path.{◌≡◌, refl, sym, ◌∙◌}
-use borrow.Author.Tests.{le-leb, lt-leb, leb-true, leb-false, lt-ltb, le-ltb}
-use lib.Dec.{leb, ltb}
+use mathlib.Core.Path.{◌≡◌, refl, ◌∙◌}
+use borrow.Author.Tests.{le-leb, lt-leb, leb-true, leb-false}
+use lib.Dec.{leb}
 use lib.ListN.{length, length-append}
 use lib.Seq.{sets, length-sets}
+use Rattle.std.specs.Prelude.{Some, None}
 use Rattle.num.proofs.Storing.{sets_append}
 use Rattle.play.specs.declared.Shown.{Shown}
 use Rattle.play.specs.Fit.{joined, fit}
-use Rattle.play.specs.Going.{has_room, with_line, filled, IsLineShown}
+use Rattle.play.specs.Going.{has_room, with_line, IsLineShown}
 
 -- With the lines xs still to come behind w bytes in n lines, the buffer will be out', with n' lines in w' bytes.
 pub record Coming (out : List ℕ) (n w : ℕ) (xs : List (List ℕ)) (out' : List ℕ) (n' w' : ℕ) : Type 0 where
@@ -36,10 +37,6 @@ module _ {out : List ℕ} {n w : ℕ} {out' : List ℕ} {n' w' : ℕ} where
   pub ends : Coming out n w [] out' n' w' → Come out n w out' n' w'
   unfolding fit joined
   ends c = record { out_is = c.out_is; lines_is = c.lines_is ∙ add-zero n; written_is = c.written_is ∙ add-zero w }
-
-  pub none_comes : w ≤ length out → Come out n w out' n' w' → Coming out n w [] out' n' w'
-  unfolding fit joined
-  none_comes fits c = record { within = fits; out_is = c.out_is; lines_is = c.lines_is ∙ sym (add-zero n); written_is = c.written_is ∙ sym (add-zero w) }
 
   module _ {x : List ℕ} {xs : List (List ℕ)} (c : Coming out n w (x ∷ xs) out' n' w') where
     -- the next has no room
@@ -69,28 +66,23 @@ module _ {out : List ℕ} {n w : ℕ} {out' : List ℕ} {n' w' : ℕ} where
 
 -- ---- a line that is to be shown
 
-module _ {s : Shown} {from n : ℕ} {x out : List ℕ} {r : Shown} {out₁ : List ℕ} (l : IsLineShown s from n x out r out₁) where
-  one_more : (early room : Bool) → (cond early s (cond room (with_line s x) (filled s))).lines ≤ s.lines + 1
-  one_more true room = omega arith
-  one_more false true = omega arith
-  one_more false false = omega arith
+module _ {s : Shown} {x out : List ℕ} {out₁ : List ℕ} {xs : List (List ℕ)} {out' : List ℕ} {n' w' : ℕ} (c : Coming out s.lines s.written (x ∷ xs) out' n' w') where
+  -- it is put
+  pub shows : {r : Shown} → IsLineShown s x out (Some r) out₁ → (r.lines ≡ s.lines + 1) × Coming out₁ r.lines r.written xs out' n' w'
+  shows {r} l = go (has_room s x out) refl
+    where
+      go : (room : Bool) → has_room s x out ≡ room → (r.lines ≡ s.lines + 1) × Coming out₁ r.lines r.written xs out' n' w'
+      go true e =
+          let both : Some r ≡ Some (with_line s x) = l.shown_is ∙ rw e in
+          let is : r ≡ with_line s x = cc in
+          let buffer : out₁ ≡ sets out s.written x = l.out_is ∙ rw e in
+          (rw is, rw (is, buffer) (puts c (leb-true _ _ e)))
+      go false e = let none : Some r ≡ None = l.shown_is ∙ rw e in absurd cc
 
-  pub at_most : r.lines ≤ s.lines + 1
-  at_most = rw l.shown_is (one_more (ltb n from) (has_room s x out))
-
-  -- its number was not asked for
-  pub passes : n < from → (r ≡ s) × (out₁ ≡ out)
-  passes early = let yes = lt-ltb n from early in (l.shown_is ∙ rw yes, l.out_is ∙ rw yes)
-
-  module _ {xs : List (List ℕ)} {out' : List ℕ} {n' w' : ℕ} (late : from ≤ n) (c : Coming out s.lines s.written (x ∷ xs) out' n' w') where
-    shows_by : (room : Bool) → has_room s x out ≡ room → Coming out₁ r.lines r.written (cond r.over [] xs) out' n' w'
-    shows_by true e =
-        let no = le-ltb n from late in
-        rw (l.shown_is, l.out_is, no, e) (puts c (leb-true _ _ e))
-    shows_by false e =
-        let no = le-ltb n from late in
-        rw (l.shown_is, l.out_is, no, e) (none_comes c.within (stops c (leb-false _ _ e)))
-
-    -- it was, and is put where it has room
-    pub shows : Coming out₁ r.lines r.written (cond r.over [] xs) out' n' w'
-    shows = shows_by (has_room s x out) refl
+  -- it has no room
+  pub stays : IsLineShown s x out None out₁ → Come out₁ s.lines s.written out' n' w'
+  stays l = go (has_room s x out) refl
+    where
+      go : (room : Bool) → has_room s x out ≡ room → Come out₁ s.lines s.written out' n' w'
+      go true e = let some : None ≡ Some (with_line s x) = l.shown_is ∙ rw e in absurd cc
+      go false e = let buffer : out₁ ≡ out = l.out_is ∙ rw e in rw buffer (stops c (leb-false _ _ e))

@@ -3,26 +3,27 @@
 use Prim.Native.Nat.{ℕ, zero, suc, ◌+◌, ◌*◌, ◌≤◌, ◌<◌}
 use mathlib.Core.Bool.{true}
 use mathlib.Core.List.{List}
-use mathlib.Core.Path.{◌≡◌, sym, ap, ◌∙◌}
+use mathlib.Core.Path.{◌≡◌, ◌∙◌}
 use native.Mathlib.Omega.{arith}
 use borrow.Author.Tests.{eqb-true}
 use lib.Dec.{eqb}
 use lib.ListN.{length, drop}
 use Rattle.num.proofs.Tests.{and_both}
+use Rattle.std.specs.Prelude.{Some}
 use Rattle.layout.specs.Value.{good_value}
 use Rattle.rule.specs.World.{unit_limit, letter_limit}
 use Rattle.rule.specs.Lent.{unit_size}
 use Rattle.rule.specs.Fresh.{fresh_number_of}
 use Rattle.script.specs.Steps.{got_at, got_of, cue_no, past, size_at}
 use Rattle.script.specs.Play.{is_play, layout_of, count_of, steps_of, offset}
-use Rattle.script.proofs.Walking.{size_positive, got_size}
+use Rattle.script.proofs.Walking.{size_positive}
 use Rattle.script.proofs.Plays.{play_says, starts_fresh}
-use Rattle.script.proofs.Offsets.{offset_drop, offset_next, offset_within, play_step, play_got}
+use Rattle.script.proofs.Offsets.{offset_next, offset_within, play_got}
 
 -- step k stands whole, and the next one behind it
 pub record Standing (b : List ℕ) (k : ℕ) : Type 0 where
-  pub got_is : got_at (drop (offset k b) b) ≡ got_of (cue_no k (steps_of b))
-  pub next_is : offset (suc k) b ≡ offset k b + (got_at (drop (offset k b) b)).size
+  pub got_is : got_at (drop (offset k b) b) ≡ Some (got_of (cue_no k (steps_of b)))
+  pub next_is : offset (suc k) b ≡ offset k b + (got_of (cue_no k (steps_of b))).size
   pub within : offset (suc k) b ≤ length b
 
 pub record Plays (b : List ℕ) : Type 0 where
@@ -39,6 +40,7 @@ offset_grows zero b = omega arith
 offset_grows (suc k) b = omega (arith, offset_grows k b, offset_next k b, size_positive (past k (steps_of b)))
 
 pub plays : (b : List ℕ) → is_play b ≡ true → Plays b
+unfolding size_at
 plays b is =
     let says = play_says b is in
     let both = and_both (good_value (layout_of b)) (eqb (layout_of b).epoch.0 1) says.starts in
@@ -50,10 +52,7 @@ plays b is =
       few = omega (arith, offset_grows (count_of b) b, offset_within b is (count_of b) (omega arith));
       standing = λ k left. record {
         got_is = play_got b is k left;
-        next_is = offset_next k b ∙ ap (◌+◌ (offset k b)) (size_is k left);
+        next_is = offset_next k b;
         within = offset_within b is (suc k) (omega arith);
       };
     }
-  where
-    size_is : (k : ℕ) → k < count_of b → size_at (past k (steps_of b)) ≡ (got_at (drop (offset k b) b)).size
-    size_is k left = sym (rw (offset_drop k b) (got_size (past k (steps_of b)) ∙ rw (play_step b is k left)))

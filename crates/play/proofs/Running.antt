@@ -3,26 +3,24 @@
 use Prim.Native.Nat.{ℕ, zero, suc, ◌+◌, ◌-◌, ◌≤◌, ◌<◌}
 use native.Mathlib.Nat.{sub-zero, sub_self}
 use native.Mathlib.Numerals.{add-one}
-use native.Mathlib.Decide.{dec_le}
 use native.Mathlib.Omega.{arith}
-use mathlib.Core.Bool.{Bool, true, false, ◌&&◌, not, cond}
 use mathlib.Core.List.{List, [], ◌∷◌}
 use mathlib.Core.Path.{◌≡◌, refl, sym, ap, subst, ◌∙◌}
-use borrow.Author.Tests.{ltb-true, ltb-false, not-true}
-use lib.Dec.{ltb}
 use lib.ListN.{length, drop, drop_of_length-le}
 use lib.Seq.{sets, drop-nil}
 use Rattle.sequencer.specs.declared.Sequencer.{Sequencer}
-use Rattle.num.proofs.Tests.{and_both, left_step}
+use Rattle.num.proofs.Tests.{left_step}
 use Rattle.rule.specs.declared.Letter.{Letter}
-use Rattle.rule.specs.declared.Stepped.{Stepped}
+use Rattle.rule.specs.Stepped.{Stepped, stepped_in}
 use Rattle.rule.specs.declared.Yard.{Yard}
+use Rattle.rule.specs.declared.Stepped.{Stepped as Returned}
 use Rattle.rule.specs.Lent.{Lent, lent_of, IsStep}
 use Rattle.kept.specs.declared.Kept.{Kept}
-use Rattle.kept.specs.declared.KeptStep.{KeptStep}
-use Rattle.kept.specs.Promises.{IsKeptStep}
+use Rattle.kept.specs.Promises.{KeptStep, kept_step_in, IsKeptStep}
 use Rattle.vouch.specs.Lending.{lent}
 use Rattle.vouch.proofs.Lending.{lent_next, lends}
+use Rattle.std.specs.Prelude.{Some, None}
+use Rattle.script.specs.declared.judge.Judged.{Judged}
 use Rattle.script.specs.declared.step.Got.{Got}
 use Rattle.script.specs.Steps.{got_at, got_of, cue_no}
 use Rattle.script.specs.Play.{layout_of, count_of, steps_of, offset}
@@ -32,13 +30,17 @@ use Rattle.play.specs.Fit.{joined}
 use Rattle.play.specs.Text.{move_no, before, line_no, lines_from}
 use Rattle.play.specs.Shown.{shown_of}
 use Rattle.play.specs.Going.{kept_lent, after_of, line_in, IsLineShown, Ready, Ran}
-use Rattle.play.proofs.Fitting.{Coming, starts, ends, passes, shows, at_most}
+use Rattle.play.proofs.Fitting.{Coming, starts, ends, shows, stays}
 use Rattle.play.proofs.Reading.{Plays}
 
 -- ---- the yard
 
 pub same_lent : {a : Lent} {y : Yard} {q : Sequencer} {ts : List Letter} {m : List ℕ} → y ≡ a.yard → q ≡ a.sequencer → ts ≡ a.table → m ≡ a.memories → lent_of y q ts m ≡ a
 same_lent e f g h = rw (e, f, g, h)
+
+-- the yard of what is kept is that of the step
+pub keeps_yard : (r : Returned) (k : Kept) → k.yard ≡ r.yard → k ≡ after_of (kept_step_in r k)
+keeps_yard r k e = λ i. record { yard = e i; sequencer = k.sequencer; table = k.table }
 
 -- step n is taken
 module _ (b : List ℕ) (p : Plays b) (n : ℕ) (k : Kept) (m : List ℕ) (is : kept_lent k m ≡ lent (layout_of b) (before n b)) (t : KeptStep) (m' : List ℕ)
@@ -114,7 +116,7 @@ pub record Going (b : List ℕ) (from : ℕ) (out₀ : List ℕ) (k : Kept) (m o
   pub at_is : at ≡ offset n b
   pub taken : n ≤ count_of b
   pub fewer : s.lines ≤ n
-  pub coming : Coming out s.lines s.written (cond s.over [] (rest_of b from n)) (whole_out b from out₀) (whole_lines b from out₀) (whole_written b from out₀)
+  pub coming : Coming out s.lines s.written (rest_of b from n) (whole_out b from out₀) (whole_lines b from out₀) (whole_written b from out₀)
 
 -- ---- where nothing is taken yet
 
@@ -123,85 +125,72 @@ module _ (b : List ℕ) (from : ℕ) (out : List ℕ) where
   unfolding rest_of
   all_come = rw (sub-zero (from - 1), sub-zero (count_of b)) (starts out (drop (from - 1) (lines_from 0 (count_of b) b)))
 
-  first_lines : (past : Bool) → (past ≡ true → count_of b < from) → cond past [] (rest_of b from 0) ≡ rest_of b from 0
-  first_lines true is = sym (rest_past b from (is refl))
-  first_lines false is = refl
-
-  pub begins : (first count : ℕ) (k : Kept) (m : List ℕ) → Ready b first count k m → Going b from out k m out (record { lines = 0; written = 0; over = ltb count from }) first 0
+  pub begins : {j : Judged} {k : Kept} {m : List ℕ} → Ready b j k m → Going b from out k m out (record { lines = 0; written = 0 }) j.first 0
   unfolding before
-  begins first count k m r = record {
+  begins r = record {
     lent_is = r.lent_is;
     at_is = r.first_is ∙ sym (offset_first b);
     taken = omega arith;
     fewer = omega arith;
-    coming = rw (first_lines (ltb count from) (λ past. rw r.count_is at (ltb-true count from past))) all_come;
+    coming = all_come;
   }
+
+  pub none_asked : count_of b < from → Ran b from out (record { lines = 0; written = 0 }) out
+  none_asked past =
+      let c = ends (rw (rest_past b from past) at all_come) in
+      record { out_is = sym c.out_is; lines_is = sym c.lines_is; written_is = sym c.written_is }
 
 -- ---- a step is taken and shown
 
--- the loop's test: a step is left, and lines are to come
-pub turns : (b : List ℕ) {count n : ℕ} {over : Bool} → count ≡ count_of b → (ltb n count && not over) ≡ true → (n < count_of b) × (over ≡ false)
-turns b {count} {n} {over} e test = let both = and_both (ltb n count) (not over) test in (rw e at (ltb-true n count both.0), not-true over both.1)
+module _ {b : List ℕ} {from : ℕ} {out₀ : List ℕ} {k : Kept} {m out : List ℕ} {s : Shown} {at n : ℕ} (p : Plays b) (g : Going b from out₀ k m out s at n) (left : n < count_of b) where
+  pub stands : got_at (drop at b) ≡ Some (got_of (cue_no n (steps_of b)))
+  stands = ap (λ (i : ℕ). got_at (drop i b)) g.at_is ∙ (p.standing n left).got_is
 
-module _ {b : List ℕ} {from : ℕ} {out₀ : List ℕ} {k : Kept} {m out : List ℕ} {s : Shown} {at n : ℕ} (p : Plays b) (g : Going b from out₀ k m out s at n) (left : n < count_of b) (open_yet : s.over ≡ false) where
-  pub n_small : n + 1 ≤ 65536
-  n_small = omega (arith, p.few, p.short)
-
-  module _ (got : Got) (got_is : got ≡ got_at (drop at b)) where
+  module _ {got : Got} (got_is : got_at (drop at b) ≡ Some got) where
     read : got ≡ got_of (cue_no n (steps_of b))
-    read = got_is ∙ ap (λ (i : ℕ). got_at (drop i b)) g.at_is ∙ (p.standing n left).got_is
+    read = let both : Some got ≡ Some (got_of (cue_no n (steps_of b))) = sym got_is ∙ stands in cc
 
-    size_is : got.size ≡ (got_at (drop (offset n b) b)).size
-    size_is = ap (λ (x : Got). x.size) (got_is ∙ ap (λ (i : ℕ). got_at (drop i b)) g.at_is)
+    next_at : at + got.size ≡ offset (suc n) b
+    next_at = rw (g.at_is, read) (sym (p.standing n left).next_is)
 
     -- where the next step stands is no large number
     pub at_small : at + got.size ≤ 65536
-    at_small = rw (g.at_is, size_is, ← (p.standing n left).next_is) (omega (arith, (p.standing n left).within, p.short))
+    at_small = rw next_at (omega (arith, (p.standing n left).within, p.short))
 
-  module _ (got : Got) (got_is : got ≡ got_at (drop at b)) (t : KeptStep) (m' : List ℕ) (took : IsKeptStep k m got.step got.job t m') (r : Shown) (out' : List ℕ)
-      (shown : IsLineShown s from (n + 1) (line_in (n + 1) t.stepped) out r out') where
-    taken_so : IsKeptStep k m (move_no n b).does (move_no n b).job t m'
-    taken_so = subst (λ (x : Got). IsKeptStep k m x.step x.job t m') (read got got_is) took
+    module _ {t : KeptStep} {k' : Kept} {m' : List ℕ} (took : IsKeptStep k m got.step got.job t m') (keeps : k' ≡ after_of t) where
+      taken_so : IsKeptStep k m (move_no n b).does (move_no n b).job t m'
+      taken_so = subst (λ (x : Got). IsKeptStep k m x.step x.job t m') read took
 
-    line_is : line_in (n + 1) t.stepped ≡ line_no n b
-    line_is = next_line b p n k m g.lent_is t m' taken_so
+      goes : {r : Shown} {out' : List ℕ} → r.lines ≤ n + 1
+          → Coming out' r.lines r.written (rest_of b from (n + 1)) (whole_out b from out₀) (whole_lines b from out₀) (whole_written b from out₀)
+          → Going b from out₀ k' m' out' r (at + got.size) (n + 1)
+      goes few c = record {
+        lent_is = rw (keeps, add-one) (next_lent b p n k m g.lent_is t m' taken_so);
+        at_is = next_at ∙ rw add-one;
+        taken = omega arith;
+        fewer = few;
+        coming = c;
+      }
 
-    comes : Dec (from ≤ n + 1) → Coming out' r.lines r.written (cond r.over [] (rest_of b from (n + 1))) (whole_out b from out₀) (whole_lines b from out₀) (whole_written b from out₀)
-    comes (yes late) =
-        let lines_are : cond s.over [] (rest_of b from n) ≡ line_in (n + 1) t.stepped ∷ rest_of b from (n + 1) = rw (open_yet, rest_late b from n left late, line_is) in
-        shows shown late (subst (λ (xs : List (List ℕ)). Coming out s.lines s.written xs (whole_out b from out₀) (whole_lines b from out₀) (whole_written b from out₀)) lines_are g.coming)
-    comes (no early) =
-        let passed = passes shown (omega arith) in
-        rw (passed.0, passed.1, ← rest_early b from n left (omega arith)) g.coming
+      -- its line was not asked for
+      pub goes_by : n + 1 < from → Going b from out₀ k' m' out s (at + got.size) (n + 1)
+      goes_by early = goes (omega (arith, g.fewer)) (rw (← rest_early b from n left early) g.coming)
 
-    pub goes : Going b from out₀ (after_of t) m' out' r (at + got.size) (n + 1)
-    goes = record {
-      lent_is = rw add-one (next_lent b p n k m g.lent_is t m' taken_so);
-      at_is = rw (g.at_is, size_is got got_is, add-one) (sym (p.standing n left).next_is);
-      taken = omega arith;
-      fewer = omega (arith, at_most shown, g.fewer);
-      coming = comes (dec_le from (n + 1));
-    }
+      module _ (late : from ≤ n + 1) where
+        coming_now : Coming out s.lines s.written (line_in (n + 1) t.stepped ∷ rest_of b from (n + 1)) (whole_out b from out₀) (whole_lines b from out₀) (whole_written b from out₀)
+        coming_now = rw (rest_late b from n left late, ← next_line b p n k m g.lent_is t m' taken_so) at g.coming
 
-and_true_left : (x : Bool) → (x && true) ≡ false → x ≡ false
-and_true_left true e = e
-and_true_left false e = refl
+        pub goes_on : {r : Shown} {out' : List ℕ} → IsLineShown s (line_in (n + 1) t.stepped) out (Some r) out' → Going b from out₀ k' m' out' r (at + got.size) (n + 1)
+        goes_on l = let c = shows coming_now l in goes (omega (arith, c.0, g.fewer)) c.1
 
--- ---- all steps are taken, or no line is to come
+        -- it has no room, so that none is to come
+        pub full : {out' : List ℕ} → IsLineShown s (line_in (n + 1) t.stepped) out None out' → Ran b from out₀ s out'
+        full l = let c = stays coming_now l in record { out_is = sym c.out_is; lines_is = sym c.lines_is; written_is = sym c.written_is }
 
-module _ {b : List ℕ} {from : ℕ} {out₀ : List ℕ} {k : Kept} {m out : List ℕ} {s : Shown} {at n : ℕ} (g : Going b from out₀ k m out s at n) where
-  ran : cond s.over [] (rest_of b from n) ≡ [] → Ran b from out₀ s out
-  ran over =
-      let c = ends (subst (λ (xs : List (List ℕ)). Coming out s.lines s.written xs (whole_out b from out₀) (whole_lines b from out₀) (whole_written b from out₀)) over g.coming) in
-      record { out_is = sym c.out_is; lines_is = sym c.lines_is; written_is = sym c.written_is }
-
-  -- its test failed
-  pub ended : {count : ℕ} → count ≡ count_of b → (ltb n count && not s.over) ≡ false → Ran b from out₀ s out
-  ended {count} count_is out_of_lem = ran (none_left s.over refl)
-    where
-      none_left : (over : Bool) → s.over ≡ over → cond over [] (rest_of b from n) ≡ []
-      none_left true e = refl
-      none_left false e =
-          let all : count_of b ≤ n = rw count_is at (ltb-false n count (and_true_left _ (rw e at out_of_lem))) in
-          let last : n ≡ count_of b = omega (arith, g.taken) in
-          ap (rest_of b from) last ∙ rest_none b from
+-- all steps are taken
+pub ended : {b : List ℕ} {from : ℕ} {out₀ : List ℕ} {k : Kept} {m out : List ℕ} {s : Shown} {at n : ℕ} → Going b from out₀ k m out s at n → count_of b ≤ n → Ran b from out₀ s out
+ended {b} {from} {n = n} g all =
+    let last : n ≡ count_of b = omega (arith, g.taken) in
+    let none : rest_of b from n ≡ [] = ap (rest_of b from) last ∙ rest_none b from in
+    let c = ends (rw none at g.coming) in
+    record { out_is = sym c.out_is; lines_is = sym c.lines_is; written_is = sym c.written_is }

@@ -1,12 +1,14 @@
 -- On the way to what is shown: what the inner functions promise.
-use Rattle.std.specs.Prelude.{ℕ, ◌+◌, ◌≤◌, ◌<◌, Bool, true, false, cond, List, ◌≡◌, leb, ltb, length}
+use Rattle.std.specs.Prelude.{ℕ, ◌+◌, ◌≤◌, ◌<◌, Bool, true, cond, List, ◌≡◌, leb, length, Option, Some, None}
 use Rattle.std.proofs.lemmas.List.Edits.{sets}
-use Rattle.rule.specs.declared.Stepped.{Stepped}
+use Rattle.rule.specs.Stepped.{Stepped, stepped_in}
+use Rattle.rule.specs.declared.Stepped.{Stepped as Returned}
 use Rattle.rule.specs.Lent.{Lent, lent_of}
 use Rattle.kept.specs.declared.Kept.{Kept}
-use Rattle.kept.specs.declared.KeptStep.{KeptStep}
+use Rattle.kept.specs.Promises.{KeptStep}
 use Rattle.vouch.specs.Runs.Moves.{none}
 use Rattle.vouch.specs.Lending.{lent}
+use Rattle.script.specs.declared.judge.Judged.{Judged}
 use Rattle.script.specs.Play.{is_play, layout_of, count_of, first_of}
 use Rattle.line.specs.Line.{line_of}
 use Rattle.play.specs.declared.Shown.{Shown}
@@ -30,18 +32,19 @@ abbrev pub has_room : Shown → List ℕ → List ℕ → Bool
 has_room s x out = leb (s.written + length x) (length out)
 
 abbrev pub with_line : Shown → List ℕ → Shown
-with_line s x = record { lines = s.lines + 1; written = s.written + length x; over = false }
+with_line s x = record { lines = s.lines + 1; written = s.written + length x }
 
-abbrev pub filled : Shown → Shown
-filled s = record { lines = s.lines; written = s.written; over = true }
-
--- what step number n shows where the lines from number `from` on are asked for
+-- what step number n shows
 abbrev pub line_in : ℕ → Stepped → List ℕ
 line_in n t = line_of n t.answer t.who t.outcome
 
-pub record IsLineShown (s : Shown) (from n : ℕ) (x out : List ℕ) (r : Shown) (out' : List ℕ) : Type 0 where
-  pub shown_is : r ≡ cond (ltb n from) s (cond (has_room s x out) (with_line s x) (filled s))
-  pub out_is : out' ≡ cond (ltb n from) out (cond (has_room s x out) (sets out s.written x) out)
+abbrev pub line_by : ℕ → Returned → List ℕ
+line_by n t = line_in n (stepped_in t)
+
+-- none: the line has no room
+pub record IsLineShown (s : Shown) (x out : List ℕ) (r : Option Shown) (out' : List ℕ) : Type 0 where
+  pub shown_is : r ≡ cond (has_room s x out) (Some (with_line s x)) None
+  pub out_is : out' ≡ cond (has_room s x out) (sets out s.written x) out
 
 -- fewer lines than steps, and their bytes within the buffer
 pub record Showing (s : Shown) (n : ℕ) (out : List ℕ) : Type 0 where
@@ -51,10 +54,10 @@ pub record Showing (s : Shown) (n : ℕ) (out : List ℕ) : Type 0 where
 -- ---- all of them
 
 -- a play, judged, and its fresh yard
-pub record Ready (b : List ℕ) (first count : ℕ) (k : Kept) (m : List ℕ) : Type 0 where
+pub record Ready (b : List ℕ) (j : Judged) (k : Kept) (m : List ℕ) : Type 0 where
   pub holds_play : is_play b ≡ true
-  pub first_is : first ≡ first_of b
-  pub count_is : count ≡ count_of b
+  pub first_is : j.first ≡ first_of b
+  pub count_is : j.count ≡ count_of b
   pub lent_is : kept_lent k m ≡ lent (layout_of b) none
 
 -- the lines that were asked for and fit

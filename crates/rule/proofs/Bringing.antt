@@ -10,7 +10,7 @@ use Rattle.num.proofs.Tests.{and_false}
 use Rattle.client.specs.declared.UnitAsk.{UnitAsk}
 use Rattle.client.specs.declared.Ask.TheVariants.{Unit}
 use Rattle.client.specs.declared.Reply.{Reply}
-use Rattle.client.specs.declared.turn.Turn.{Turn}
+use Rattle.client.specs.Turn.{Turn}
 use Rattle.client.specs.Client.{fresh}
 use Rattle.client.specs.Take.{takes}
 use Rattle.rule.specs.declared.Body.{Body}

@@ -11,8 +11,7 @@ use lib.Seq.{get_or-set_same, get_or-set_other}
 use borrow.Author.Tests.{leb-true}
 use Rattle.num.proofs.Tests.{false_true, and_both}
 use Rattle.client.specs.declared.Query.{Query}
-use Rattle.client.specs.declared.Act.{Act}
-use Rattle.client.specs.declared.Act.TheVariants.{Rests, Sends, Ends}
+use Rattle.client.specs.Turn.{Act, Rests, Sends, Ends}
 use Rattle.rule.specs.declared.Letter.{Letter}
 use Rattle.rule.specs.World.{is_client, is_unit}
 use Rattle.rule.specs.Steps.{without, posted}

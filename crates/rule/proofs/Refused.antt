@@ -15,13 +15,12 @@ use Rattle.layout.specs.declared.Layout.{Layout}
 use Rattle.sequencer.specs.declared.Sequencer.{Sequencer}
 use Rattle.client.specs.declared.state.Job.{Job}
 use Rattle.rule.specs.declared.Letter.{Letter}
-use Rattle.rule.specs.declared.Made.{Made}
 use Rattle.rule.specs.declared.Step.{Step}
-use Rattle.rule.specs.declared.Stepped.{Stepped}
 use Rattle.rule.specs.World.{blank_letter}
 use Rattle.rule.specs.Steps.{step}
+use Rattle.rule.specs.Stepped.{Stepped}
 use Rattle.rule.specs.Lent.{Lent, Outcomes, IsStep, lent_number, seen, laid, left, done, unlent, steps}
-use Rattle.rule.specs.Fresh.{IsMade, fresh_number, makes}
+use Rattle.rule.specs.Fresh.{Made, IsMade, fresh_number, makes}
 use Rattle.rule.proofs.Refusing.{refused_unchanged}
 use Rattle.rule.proofs.Testing.{test_says, units_same}
 

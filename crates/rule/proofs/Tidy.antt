@@ -19,9 +19,8 @@ use Rattle.client.specs.declared.Ask.{Ask}
 use Rattle.client.specs.declared.Ask.TheVariants.{Fetch, Token, Unit, Offer, Start}
 use Rattle.client.specs.declared.Page.{Page as PageValue}
 use Rattle.client.specs.declared.state.Job.{Job}
-use Rattle.client.specs.declared.turn.Turn.{Turn}
 use Rattle.client.specs.Client.{busy, last_number}
-use Rattle.client.specs.Turn.{rests, ends}
+use Rattle.client.specs.Turn.{Turn, rests, ends}
 use Rattle.client.specs.Take.{takes}
 use Rattle.client.specs.Job.{job_checks}
 use Rattle.client.specs.Begin.{begin_turn, give_up, restarted}

@@ -1,7 +1,9 @@
 -- "Fresh yard: a good layout of epoch 1 (else 10), sequencer at epoch 1 and 0, eight units sealed at 0 with floor and count 0, no letters,
 -- clients idle in life 1 with no number used." (docs/RULES.md, 9.4)
-use Rattle.std.specs.Prelude.{ℕ, zero, suc, ◌*◌, false, ◌&&◌, not, cond, List, [], ◌∷◌, ◌≡◌, eqb, length, replicate}
+use Rattle.std.specs.Prelude.{ℕ, zero, suc, ◌*◌, false, ◌&&◌, not, cond, List, [], ◌∷◌, ◌≡◌, eqb, length, replicate, Result}
 use Rattle.num.specs.Checks.{lowest, ◌if◌}
+use Rattle.num.specs.Refusals.{answered, given}
+use Rattle.num.specs.declared.refusal.Refusal.{Refusal}
 use Rattle.layout.specs.declared.Layout.{Layout}
 use Rattle.layout.specs.Value.{good_value, blank}
 use Rattle.unit.specs.State.{State}
@@ -11,7 +13,6 @@ use Rattle.sequencer.specs.Rules as sequencer
 use Rattle.client.specs.Client as client
 use Rattle.rule.specs.declared.Letter.{Letter}
 use Rattle.rule.specs.declared.Yard.{Yard}
-use Rattle.rule.specs.declared.Made.{Made}
 use Rattle.rule.specs.World.{World, shape_under, unit_limit, client_limit, letter_limit, blank_letter}
 use Rattle.rule.specs.Lent.{Lent, unit_size, units_bytes}
 
@@ -62,6 +63,15 @@ unfoldable pub makes : Layout → Sequencer → List Letter → List ℕ → Len
 makes l s table memories =
     cond (eqb (fresh_number l table memories) 0) (fresh_lent l)
     (record { yard = fresh_yard blank; sequencer = s; table = table; memories = memories })
+
+-- what making a yard answers, and the yard
+pub record Made : Type 0 where
+  pub answer : ℕ
+  pub yard : Yard
+
+-- what the code returns, as that
+abbrev pub made_in : Result Yard Refusal → Made
+made_in r = record { answer = answered r; yard = given (fresh_yard blank) r }
 
 pub record IsMade (l : Layout) (s : Sequencer) (table : List Letter) (memories : List ℕ) (r : Made) (s' : Sequencer) (table' : List Letter) (memories' : List ℕ) : Type 0 where
   pub answer_is : r.answer ≡ fresh_number l table memories

@@ -15,9 +15,9 @@ use Rattle.client.specs.Turn.{no_outcome}
 use Rattle.rule.specs.declared.Letter.{Letter}
 use Rattle.rule.specs.declared.Yard.{Yard}
 use Rattle.rule.specs.declared.Step.{Step}
-use Rattle.rule.specs.declared.Stepped.{Stepped}
 use Rattle.rule.specs.World.{World, shape_under, unit_limit, letter_limit, blank_letter}
 use Rattle.rule.specs.Steps.{Done, step}
+use Rattle.rule.specs.Stepped.{Stepped}
 
 pub record Lent : Type 0 where
   pub yard : Yard

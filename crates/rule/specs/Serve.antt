@@ -4,10 +4,8 @@ use Rattle.num.specs.declared.Edges.{Edges}
 use Rattle.num.specs.declared.Epoch.{Epoch}
 use Rattle.num.specs.declared.Position.{Position}
 use Rattle.layout.specs.declared.Layout.{Layout}
-use Rattle.layout.specs.declared.holder.Offered.{Offered}
-use Rattle.layout.specs.declared.holder.Fetched.{Fetched}
 use Rattle.layout.specs.Value.{blank, padded}
-use Rattle.layout.specs.Holder.{offered_to, fetched_from}
+use Rattle.layout.specs.Holder.{Fetched, Offered, offered_to, fetched_from}
 use Rattle.unit.specs.declared.shape.Shape.{Shape}
 use Rattle.unit.specs.State.{Content, State, content}
 use Rattle.unit.specs.Unit.{Request, says, after as unit_after_lem, report}
@@ -15,9 +13,7 @@ use Rattle.unit.specs.Unit.Request.{write, read, trim, prune, seal}
 use Rattle.sequencer.specs.declared.Sequencer.{Sequencer}
 use Rattle.sequencer.specs.declared.Asked.{Asked}
 use Rattle.sequencer.specs.declared.Asked.TheVariants as asked
-use Rattle.sequencer.specs.declared.Told.{Told}
-use Rattle.sequencer.specs.declared.Told.TheVariants.{At, Number}
-use Rattle.sequencer.specs.Rules.{told, after}
+use Rattle.sequencer.specs.Rules.{Told, At, Number, told, after}
 use Rattle.client.specs.declared.Page.{Page}
 use Rattle.client.specs.declared.UnitAsk.{UnitAsk}
 use Rattle.client.specs.declared.UnitAsk.TheVariants.{Write, Read, Trim, Prune, Seal}

@@ -9,11 +9,8 @@ use Rattle.client.specs.declared.Response.{Response}
 use Rattle.client.specs.declared.Stamp.{Stamp}
 use Rattle.client.specs.declared.Client.{Client}
 use Rattle.client.specs.declared.state.Job.{Job}
-use Rattle.client.specs.declared.Act.{Act}
-use Rattle.client.specs.declared.Act.TheVariants.{Rests, Sends, Ends}
 use Rattle.client.specs.declared.Outcome.{Outcome}
-use Rattle.client.specs.declared.turn.Turn.{Turn}
-use Rattle.client.specs.Turn.{no_outcome}
+use Rattle.client.specs.Turn.{Act, Rests, Sends, Ends, Turn, no_outcome}
 use Rattle.client.specs.Job.{job_checks}
 use Rattle.client.specs.Begin.{ready_checks, begin_turn, give_up, restart_answer, restarted}
 use Rattle.client.specs.Take.{takes}

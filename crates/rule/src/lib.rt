@@ -1,12 +1,13 @@
 // The rule of the yard: letters, and the steps that carry them between clients and machines. specs/ says what each step does; the code is in yard.
 #![tactic(auto)]
 
-ghost use Rattle.std.specs.Prelude.{◌≡◌};
+ghost use Rattle.std.specs.Prelude.{◌≡◌, ◌≤◌};
 ghost use Rattle.rule.specs.World.{blank_letter};
 
 use client::{Ask, Client, Outcome, Page, Reply, Stamp};
 use layout::Layout;
 use num::Request;
+use num::refusal::Refusal;
 
 // Nothing, a request, or an answer.
 #[derive(Clone, Copy)]
@@ -30,18 +31,15 @@ impl Letter {
     pub fn blank() -> Letter
         ensures { result ≡ blank_letter }
     {
-        let stamp = Stamp {
-            client: 0,
-            life: 0,
-            number: Request(0),
-        };
-        let page = Page::blank();
-        let layout = Layout::blank();
         Letter {
-            stamp,
+            stamp: Stamp {
+                client: 0,
+                life: 0,
+                number: Request(0),
+            },
             body: Body::Blank,
-            page,
-            layout,
+            page: Page::blank(),
+            layout: Layout::blank(),
         }
     }
 }
@@ -84,18 +82,18 @@ pub enum Step {
     Forget,
 }
 
-// What a step answers; the client whose operation ended (0: none) and its outcome; the yard afterwards.
+// Whose operation ended, and how.
 #[derive(Clone, Copy)]
-pub struct Stepped {
-    pub answer: u8,
+pub struct Ended {
     pub who: u8,
     pub outcome: Outcome,
-    pub yard: Yard,
+    ghost somebody: { 1 ≤ who },
 }
 
-// What making a yard answers, and the yard.
+// What a step answers, the operation that ended with it, and the yard afterwards.
 #[derive(Clone, Copy)]
-pub struct Made {
-    pub answer: u8,
+pub struct Stepped {
+    pub answer: Result<(), Refusal>,
+    pub ended: Option<Ended>,
     pub yard: Yard,
 }

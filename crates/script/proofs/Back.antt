@@ -17,6 +17,7 @@ use Rattle.layout.specs.Codec.{sets_bytes}
 use Rattle.layout.proofs.Padded.{padded_exact}
 use Rattle.layout.proofs.SetsAt.{sets_back}
 use Rattle.client.specs.Client.{drop_limit}
+use Rattle.std.specs.Prelude.{Some}
 use Rattle.script.specs.Cue.{Cue}
 use Rattle.script.specs.Cue.Cue.{append, read, fill, trim, prune, reorganise, deliver, drop_at, stop, restart, give_up, forget}
 use Rattle.script.specs.Steps.{flag, cue_bytes, cue_for, cue_at, size_at, is_tag, good_flags, small_sets, has_room, is_cue, got_of, got_at, is_byte, are_bytes, sets_are_bytes, is_position, holdable}
@@ -112,6 +113,6 @@ module _ (c : Cue) (ys : List ℕ) (h : holdable c ≡ true) where
   past_cue = rw size_back (drop-append_seam (cue_bytes c) ys)
 
 -- what code takes of a whole step
-pub got_whole : (b : List ℕ) → is_cue b ≡ true → got_at b ≡ got_of (cue_at b)
+pub got_whole : (b : List ℕ) → is_cue b ≡ true → got_at b ≡ Some (got_of (cue_at b))
 unfolding got_at
 got_whole b h = rw h

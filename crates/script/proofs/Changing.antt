@@ -1,14 +1,16 @@
 -- A reorganise put into a lent buffer.
-use Prim.Native.Nat.{ℕ, ◌+◌, ◌≤◌}
-use mathlib.Core.Bool.{Bool, true, false, ◌&&◌, ◌||◌}
+use Prim.Native.Nat.{ℕ, ◌+◌, ◌<◌, ◌≤◌}
+use mathlib.Core.Bool.{true, false, ◌&&◌}
 use mathlib.Core.List.{List, ◌∷◌, ◌++◌}
-use mathlib.Core.Path.{◌≡◌, refl, ap, ◌∙◌}
+use mathlib.Core.Path.{◌≡◌, ap, ◌∙◌}
 use native.Mathlib.Omega.{arith}
-use borrow.Author.Tests.{ltb-true, ltb-false, le-leb, lt-leb}
-use lib.Dec.{leb, ltb}
+use Rattle.std.specs.Prelude.{◌⊎◌}
+use Rattle.std.proofs.Common.{inl, inr}
+use borrow.Author.Tests.{le-leb, lt-leb}
+use lib.Dec.{leb}
 use lib.ListN.{length, take, set, length-set}
 use lib.Seq.{sets, length-sets, length-take-le}
-use Rattle.num.proofs.Tests.{and_false, or_false}
+use Rattle.num.proofs.Tests.{and_false}
 use Rattle.num.proofs.Storing.{stored_both}
 use Rattle.layout.specs.Lay.{sets_limit}
 use Rattle.layout.specs.Plan.{new_of}
@@ -26,26 +28,19 @@ change_bytes c h = 6 ∷ c ∷ (counted (take h.count h.drops) ++ (length (new_o
 
 module _ (h : Change) (n : ℕ) (en : n ≡ h.count) where
   -- more units to drop, or more sets, than there is room for
-  pub change_many : (ltb drop_limit n || ltb sets_limit h.wish.count) ≡ true → change_fits h ≡ false
+  pub change_many : (8 < n) ⊎ (16 < h.wish.count) → change_fits h ≡ false
   unfolding change_fits
-  change_many y = rw (← en) (go (ltb drop_limit n) refl y)
-    where
-      go : (t : Bool) → ltb drop_limit n ≡ t → (t || ltb sets_limit h.wish.count) ≡ true
-          → (leb n drop_limit && leb h.wish.count sets_limit && small_chains (take h.wish.count h.wish.sets)) ≡ false
-      go true e z = rw (lt-leb n drop_limit (ltb-true drop_limit n e))
-      go false e z = rw (lt-leb h.wish.count sets_limit (ltb-true sets_limit h.wish.count z), and_false (leb n drop_limit))
+  change_many (inl m) = rw (← en, lt-leb n drop_limit m)
+  change_many (inr m) = rw (lt-leb h.wish.count sets_limit m, and_false (leb h.count drop_limit))
 
-  module _ (small : Bool) (es : small ≡ small_chains (take h.wish.count h.wish.sets)) where
-    -- a set of more units
-    pub change_large : small ≡ false → change_fits h ≡ false
-    unfolding change_fits
-    change_large y = rw (← es, y, and_false (leb h.count drop_limit && leb h.wish.count sets_limit))
+  -- a set of more units
+  pub change_large : small_chains (take h.wish.count h.wish.sets) ≡ false → change_fits h ≡ false
+  unfolding change_fits
+  change_large y = rw (y, and_false (leb h.count drop_limit && leb h.wish.count sets_limit))
 
-    pub change_fits_lem : (ltb drop_limit n || ltb sets_limit h.wish.count) ≡ false → small ≡ true → change_fits h ≡ true
-    unfolding change_fits
-    change_fits_lem y z =
-        let p = or_false (ltb drop_limit n) (ltb sets_limit h.wish.count) y in
-        rw (← en, ← es, z, le-leb n drop_limit (ltb-false drop_limit n p.0), le-leb h.wish.count sets_limit (ltb-false sets_limit h.wish.count p.1))
+  pub change_fits_lem : n ≤ 8 → h.wish.count ≤ 16 → small_chains (take h.wish.count h.wish.sets) ≡ true → change_fits h ≡ true
+  unfolding change_fits
+  change_fits_lem few some y = rw (← en, y, le-leb n drop_limit few, le-leb h.wish.count sets_limit some)
 
   pub change_length : (c m : ℕ) → n ≤ length h.drops → m ≡ 1 + length (sets_bytes (new_of h.wish)) → length (change_bytes c h) ≡ (3 + n) + m
   unfolding cue_bytes

@@ -6,6 +6,7 @@ use mathlib.Core.Path.{◌≡◌, refl, sym, ap, ◌∙◌}
 use native.Mathlib.Omega.{arith}
 use lib.ListN.{length, drop, length-drop}
 use lib.Seq.{drop-drop}
+use Rattle.std.specs.Prelude.{Some}
 use Rattle.script.specs.Steps.{size_at, is_cue, past, cue_no, got_of, got_at}
 use Rattle.script.specs.Play.{count_of, first_of, steps_of, offset, is_play}
 use Rattle.script.proofs.Walking.{cue_within}
@@ -34,7 +35,7 @@ module _ (b : List ℕ) (h : is_play b ≡ true) where
   pub play_step : (k : ℕ) → k < count_of b → is_cue (past k (steps_of b)) ≡ true
   play_step k l = cue_there (count_of b) k (steps_of b) (play_says b h).steps l
 
-  pub play_got : (k : ℕ) → k < count_of b → got_at (drop (offset k b) b) ≡ got_of (cue_no k (steps_of b))
+  pub play_got : (k : ℕ) → k < count_of b → got_at (drop (offset k b) b) ≡ Some (got_of (cue_no k (steps_of b)))
   play_got k l = rw (offset_drop k b) (got_whole (past k (steps_of b)) (play_step k l))
 
   -- within the file

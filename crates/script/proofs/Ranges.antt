@@ -23,6 +23,7 @@ use Rattle.client.specs.Client.{drop_limit}
 use Rattle.client.specs.Job.{position_for}
 use Rattle.rule.specs.declared.Step.{Step}
 use Rattle.rule.specs.declared.Step.TheVariants.{Begin, Deliver, Drop, Stop, Restart, GiveUp, Forget}
+use Rattle.std.specs.Prelude.{Some, None}
 use Rattle.script.specs.Cue.{Cue, step_for, job_for}
 use Rattle.script.specs.Steps.{cue_bytes, small_sets, has_room, got_of, got_at, are_bytes, sets_are_bytes, holdable}
 use Rattle.script.specs.Put.{begun, cue_of, small_chains, change_fits, job_fits, step_fits, fits_at, StepPut}
@@ -131,8 +132,8 @@ same_step (Restart c) j = refl
 same_step (GiveUp c) j = refl
 same_step Forget j = refl
 
-got_back : (c : Cue) (ys : List ℕ) → holdable c ≡ true → got_at (cue_bytes c ++ ys) ≡ got_of c
-got_back c ys h = got_whole (cue_bytes c ++ ys) (cue_stands c ys h) ∙ ap got_of (cue_back c ys h)
+got_back : (c : Cue) (ys : List ℕ) → holdable c ≡ true → got_at (cue_bytes c ++ ys) ≡ Some (got_of c)
+got_back c ys h = got_whole (cue_bytes c ++ ys) (cue_stands c ys h) ∙ ap (λ (x : Cue). Some (got_of x)) (cue_back c ys h)
 
 -- what stands at a place where bytes were put
 put_front : (vs before : List ℕ) (at : ℕ) → at + length vs ≤ length before → drop at (sets before at vs) ≡ vs ++ drop (at + length vs) before
@@ -141,15 +142,16 @@ put_front vs before at h =
     rw (sets-eq vs before at h, append_assoc (take at before) vs rest) (drop_at (take at before) (vs ++ rest) at (length-take-le at before (omega arith)))
 
 -- the result: where put_step wrote, step_at finds the step again, and what came with it
-pub put_reads : (s : Step) (j : Job) (at count : ℕ) (before after : List ℕ) → Ranged s j → StepPut s j at before count after → 0 < count
-    → got_at (drop at after) ≡ record { size = count; step = s; job = job_for (cue_of s j) }
-put_reads s j at count before after r p some = go (fits_at (step_fits s j) before at (cue_bytes (cue_of s j))) refl
+pub put_reads : (s : Step) (j : Job) (at count : ℕ) (before after : List ℕ) → Ranged s j → StepPut s j at before (Some count) after
+    → got_at (drop at after) ≡ Some (record { size = count; step = s; job = job_for (cue_of s j) })
+put_reads s j at count before after r p = go (fits_at (step_fits s j) before at (cue_bytes (cue_of s j))) refl
   where
-    go : (t : Bool) → fits_at (step_fits s j) before at (cue_bytes (cue_of s j)) ≡ t → got_at (drop at after) ≡ record { size = count; step = s; job = job_for (cue_of s j) }
-    go false e = let none : count ≡ 0 = p.count_is ∙ rw e in absurd (omega arith)
+    go : (t : Bool) → fits_at (step_fits s j) before at (cue_bytes (cue_of s j)) ≡ t → got_at (drop at after) ≡ Some (record { size = count; step = s; job = job_for (cue_of s j) })
+    go false e = let none : Some count ≡ None = p.count_is ∙ rw e in cc
     go true e =
         let q = and_both (step_fits s j) (leb (at + length (cue_bytes (cue_of s j))) (length before)) e in
-        let size : count ≡ length (cue_bytes (cue_of s j)) = p.count_is ∙ rw e in
+        let counted : Some count ≡ Some (length (cue_bytes (cue_of s j))) = p.count_is ∙ rw e in
+        let size : count ≡ length (cue_bytes (cue_of s j)) = cc in
         let put : after ≡ sets before at (cue_bytes (cue_of s j)) = p.buffer_is ∙ rw e in
         let room : at + length (cue_bytes (cue_of s j)) ≤ length before = leb-true (at + length (cue_bytes (cue_of s j))) (length before) q.1 in
         rw (put, put_front (cue_bytes (cue_of s j)) before at room, got_back (cue_of s j) (drop (at + length (cue_bytes (cue_of s j))) before) (step_holdable s j r q.0), same_step s j, size)

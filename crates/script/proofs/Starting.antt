@@ -1,15 +1,18 @@
 -- The start of a play put into a lent buffer.
 use Prim.Native.Nat.{ℕ, ◌+◌, ◌≤◌}
-use mathlib.Core.Bool.{Bool, true, false, ◌&&◌, ◌||◌, not, cond}
+use mathlib.Core.Bool.{Bool, true, false, ◌&&◌, not}
 use mathlib.Core.List.{List, ◌++◌}
 use mathlib.Core.Path.{◌≡◌, refl, sym, ap, ◌∙◌}
 use native.Mathlib.Omega.{arith}
-use borrow.Author.Tests.{le-ltb, eq-eqb, eqb-true, not-true, not-false}
+use borrow.Author.Tests.{le-ltb, eq-eqb, ne_eqb, not-false}
 use lib.Dec.{eqb, ltb}
 use lib.ListN.{length, take, replicate, length-append}
 use lib.Seq.{sets, length-sets}
+use Rattle.num.specs.declared.refusal.Refusal.{Refusal}
+use Rattle.num.specs.Refusals.{number}
+use Rattle.num.proofs.Refusals.{number_above}
 use Rattle.num.specs.Bytes.{le_bytes, with_number}
-use Rattle.num.proofs.Tests.{or_false, cond_zero}
+use Rattle.num.proofs.Tests.{and_false, or_false, cond_zero}
 use Rattle.num.proofs.Numbers.{le_length, stored_within}
 use Rattle.num.proofs.Storing.{stored_both}
 use Rattle.layout.specs.declared.Layout.{Layout}
@@ -33,46 +36,33 @@ written_good : (l : Layout) → write_refused l (replicate 168 0) ≡ false → 
 unfolding write_refused
 written_good l e = not-false (good_value l) (or_false (not (good_value l)) (ltb 168 (length (bytes_of l))) e).0
 
-module _ (l : Layout) (answer n : ℕ) (part : List ℕ) (w : LayoutWritten l (replicate 168 0) answer n part) where
-  -- n: how many bytes were written
-  pub start_few : n ≤ 168
-  unfolding write_refused
-  start_few = rw w.count_is (go (good_value l) refl)
-    where
-      go : (t : Bool) → good_value l ≡ t → cond (write_refused l (replicate 168 0)) 0 (length (bytes_of l)) ≤ 168
-      go true g = rw (good_written l g) (good_few l g)
-      go false g = rw g (omega arith)
+module _ (l : Layout) where
+  -- another epoch than the first
+  pub start_other : (l.epoch.0 ≡ 1 → ⊥) → starts_yard l ≡ false
+  start_other h = rw (ne_eqb l.epoch.0 1 h, and_false (good_value l))
 
-  pub part_long : length part ≡ 168
-  part_long = ap length w.buffer_is ∙ go (write_refused l (replicate 168 0))
-    where
-      go : (t : Bool) → length (cond t (replicate 168 0) (sets (replicate 168 0) 0 (bytes_of l))) ≡ 168
-      go true = refl
-      go false = length-sets (replicate 168 0) 0 (bytes_of l)
-
-  pub start_refused : (not (eqb answer 0) || not (eqb l.epoch.0 1)) ≡ true → starts_yard l ≡ false
-  start_refused h = go (good_value l) refl
+  pub start_refused : (r : Refusal) {n : ℕ} {part : List ℕ} → LayoutWritten l (replicate 168 0) (number r) n part → starts_yard l ≡ false
+  start_refused r w = go (good_value l) refl
     where
       go : (t : Bool) → good_value l ≡ t → (t && eqb l.epoch.0 1) ≡ false
       go false g = refl
-      go true g =
-          let fine : answer ≡ 0 = w.answer_is ∙ rw (good_written l g) in
-          not-true (eqb l.epoch.0 1) (rw (eq-eqb answer 0 fine) at h)
+      go true g = absurd (number_above r (w.answer_is ∙ rw (good_written l g)))
 
-  module _ (h : (not (eqb answer 0) || not (eqb l.epoch.0 1)) ≡ false) where
+  module _ {n : ℕ} {part : List ℕ} (w : LayoutWritten l (replicate 168 0) 0 n part) where
     taken : write_refused l (replicate 168 0) ≡ false
-    taken =
-        let p = or_false (not (eqb answer 0)) (not (eqb l.epoch.0 1)) h in
-        let fine : ◌≡◌ {A = ℕ} (cond (write_refused l (replicate 168 0)) 10 0) 0 = sym w.answer_is ∙ eqb-true answer 0 (not-false (eqb answer 0) p.0) in
-        (cond_zero (write_refused l (replicate 168 0)) 10 0 (omega arith) fine).0
+    taken = (cond_zero (write_refused l (replicate 168 0)) 10 0 (omega arith) (sym w.answer_is)).0
 
-    pub start_taken : starts_yard l ≡ true
-    start_taken =
-        let p = or_false (not (eqb answer 0)) (not (eqb l.epoch.0 1)) h in
-        rw (written_good l taken, not-false (eqb l.epoch.0 1) p.1)
+    pub start_taken : l.epoch.0 ≡ 1 → starts_yard l ≡ true
+    start_taken one = rw (written_good l taken, eq-eqb l.epoch.0 1 one)
 
     pub start_count : n ≡ length (bytes_of l)
     start_count = w.count_is ∙ rw taken
+
+    pub start_few : n ≤ 168
+    start_few = rw start_count (good_few l (written_good l taken))
+
+    pub part_long : length part ≡ 168
+    part_long = ap length (w.buffer_is ∙ rw taken) ∙ length-sets (replicate 168 0) 0 (bytes_of l)
 
     pub start_part : take n part ≡ bytes_of l
     start_part =

@@ -4,10 +4,12 @@ use mathlib.Core.Bool.{Bool, true, false, ◌&&◌, ◌||◌, not, cond}
 use mathlib.Core.List.{List, ◌∷◌}
 use mathlib.Core.Path.{◌≡◌, refl, sym, ◌∙◌}
 use native.Mathlib.Omega.{arith}
-use borrow.Author.Tests.{lt-leb, leb-true}
+use borrow.Author.Tests.{lt-leb, le-leb, leb-true}
 use lib.Dec.{eqb, leb}
 use lib.ListN.{length, get_or, take, drop, drop_of_length-le, length-append, length-drop}
 use lib.Seq.{get_or-drop, take_all}
+use Rattle.std.proofs.Common.{inl, inr}
+use Rattle.std.specs.Prelude.{◌⊎◌, Option, Some, None}
 use Rattle.num.specs.Bytes.{number_at}
 use Rattle.num.proofs.Numbers.{le_length}
 use Rattle.num.proofs.Tests.{and_both, and_false, false_true}
@@ -27,7 +29,7 @@ use Rattle.rule.specs.declared.Step.TheVariants.{Begin, Drop, Stop, Restart, Giv
 use Rattle.script.specs.declared.step.Got.{Got}
 use Rattle.script.specs.Cue.{step_for, job_for, no_job, change_of}
 use Rattle.script.specs.Cue.Cue.{append, reorganise, deliver}
-use Rattle.script.specs.Steps.{cue_bytes, past_drops, cue_for, cue_at, is_tag, small_sets, has_room, is_cue, nothing, whole, got_at}
+use Rattle.script.specs.Steps.{cue_bytes, past_drops, cue_for, cue_at, is_tag, small_sets, has_room, is_cue, whole, got_at}
 
 -- ---- by the tag
 
@@ -39,11 +41,11 @@ pub got_tagged : (b : List ℕ) (t : ℕ) → get_or b 0 0 ≡ t → tagged t b 
 unfolding got_at is_cue cue_at
 got_tagged b t e h = rw (e, h)
 
-pub got_none : (b : List ℕ) (t : ℕ) → get_or b 0 0 ≡ t → tagged t b ≡ false → got_at b ≡ nothing
+pub got_none : (b : List ℕ) (t : ℕ) → get_or b 0 0 ≡ t → tagged t b ≡ false → got_at b ≡ None
 unfolding got_at is_cue cue_at
 got_none b t e h = rw (e, h)
 
-pub got_past : (b : List ℕ) (at : ℕ) → length b < at → got_at (drop at b) ≡ nothing
+pub got_past : (b : List ℕ) (at : ℕ) → length b < at → got_at (drop at b) ≡ None
 unfolding got_at is_cue
 got_past b at h = rw (drop_of_length-le b {i = at} (omega arith))
 
@@ -79,7 +81,7 @@ no_tag t a b c d e f g h i j k l = go (is_tag t) refl
         absurd (by_tag (λ u. u ≡ t → ⊥) (λ z. a (sym z)) (λ z. b (sym z)) (λ z. c (sym z)) (λ z. d (sym z)) (λ z. e (sym z)) (λ z. f (sym z)) (λ z. g (sym z)) (λ z. h (sym z)) (λ z. i (sym z)) (λ z. j (sym z)) (λ z. k (sym z)) (λ z. l (sym z)) t y refl)
 
 pub got_other : (b : List ℕ) (t : ℕ) → t ≡ get_or b 0 0 → (t ≡ 1 → ⊥) → (t ≡ 2 → ⊥) → (t ≡ 3 → ⊥) → (t ≡ 4 → ⊥) → (t ≡ 5 → ⊥) → (t ≡ 6 → ⊥) → (t ≡ 7 → ⊥) → (t ≡ 8 → ⊥) → (t ≡ 9 → ⊥) → (t ≡ 10 → ⊥) → (t ≡ 11 → ⊥) → (t ≡ 12 → ⊥)
-    → nothing ≡ got_at b
+    → None ≡ got_at b
 got_other b t et a c d e f g h i j k l m = sym (got_none b t (sym et) (rw (no_tag t a c d e f g h i j k l m)))
 
 -- all that stands behind a place
@@ -87,8 +89,8 @@ pub behind_part : (b : List ℕ) (at : ℕ) → take (length b - at) (drop at b)
 behind_part b at = take_all (length b - at) (drop at b) (omega (arith, length-drop at b))
 
 -- a step of n bytes, unless it is cut short
-abbrev pub sized_at : List ℕ → ℕ → Step → Job → Got
-sized_at b n s j = cond (leb n (length b)) (record { size = n; step = s; job = j }) nothing
+abbrev pub sized_at : List ℕ → ℕ → Step → Job → Option Got
+sized_at b n s j = cond (leb n (length b)) (Some (record { size = n; step = s; job = j })) None
 
 -- ---- the rows: `t` is the tag as code read it
 
@@ -138,12 +140,12 @@ module _ (b : List ℕ) (t : ℕ) (et : t ≡ get_or b 0 0) where
   got_reorganise e = sym (got_tagged b 6 (sym et ∙ e) refl)
 
   pub got_deliver : t ≡ 7
-      → cond (leb (get_or b 2 0) 1 && leb (get_or b 3 0) 1) (whole b (deliver (get_or b 1 0) (eqb (get_or b 2 0) 1) (eqb (get_or b 3 0) 1))) nothing ≡ got_at b
+      → cond (leb (get_or b 2 0) 1 && leb (get_or b 3 0) 1) (whole b (deliver (get_or b 1 0) (eqb (get_or b 2 0) 1) (eqb (get_or b 3 0) 1))) None ≡ got_at b
   unfolding cue_for
   got_deliver e = go (leb (get_or b 2 0) 1 && leb (get_or b 3 0) 1) refl
     where
       go : (y : Bool) → (leb (get_or b 2 0) 1 && leb (get_or b 3 0) 1) ≡ y
-          → cond y (whole b (deliver (get_or b 1 0) (eqb (get_or b 2 0) 1) (eqb (get_or b 3 0) 1))) nothing ≡ got_at b
+          → cond y (whole b (deliver (get_or b 1 0) (eqb (get_or b 2 0) 1) (eqb (get_or b 3 0) 1))) None ≡ got_at b
       go true y = sym (got_tagged b 7 (sym et ∙ e) y)
       go false y = sym (got_none b 7 (sym et ∙ e) y)
 
@@ -181,27 +183,38 @@ module _ (b : List ℕ) (c n : ℕ) (en : n ≡ get_or b 2 0) where
   short : (ss : List (List ℕ)) → length b < 3 + n → leb (length (cue_bytes (reorganise c (set_front (drop 2 b)) ss))) (length b) ≡ false
   short ss h = lt-leb (length (cue_bytes (reorganise c (set_front (drop 2 b)) ss))) (length b) (omega (arith, reorganise_size c (set_front (drop 2 b)) ss, counted_length b n en))
 
-  pub reorganise_short : length b < 3 + n → nothing ≡ whole b (reorganise c (set_front (drop 2 b)) (sets_said (past_drops b)))
+  pub reorganise_short : length b < 3 + n → None ≡ whole b (reorganise c (set_front (drop 2 b)) (sets_said (past_drops b)))
   reorganise_short h =
       sym (rw (short (sets_said (past_drops b)) h, and_false (has_room (reorganise c (set_front (drop 2 b)) (sets_said (past_drops b))))))
 
   -- `new`: the bytes behind the drops; `reach`: how far the sets reach in them
-  module _ (new : List ℕ) (m : ℕ) (small : Bool) (ew : new ≡ drop (3 + n) b) (em : m ≡ get_or new 0 0) (es : small ≡ small_sets (sets_said new)) where
+  module _ (new : List ℕ) (m : ℕ) (ew : new ≡ drop (3 + n) b) (em : m ≡ get_or new 0 0) where
     behind : sets_said (past_drops b) ≡ sets_said new
     behind = rw (ew, en)
 
-    room : (leb n drop_limit && leb m sets_limit && small) ≡ has_room (reorganise c (set_front (drop 2 b)) (sets_said new))
+    room : (leb n drop_limit && leb m sets_limit && small_sets (sets_said new)) ≡ has_room (reorganise c (set_front (drop 2 b)) (sets_said new))
     unfolding has_room
-    room = rw (counted_length b n en, es, em, sets_length (get_or new 0 0) (drop 1 new))
+    room = rw (counted_length b n en, em, sets_length (get_or new 0 0) (drop 1 new))
 
-    pub reorganise_none : (leb n drop_limit && leb m sets_limit && small) ≡ false → nothing ≡ whole b (reorganise c (set_front (drop 2 b)) (sets_said (past_drops b)))
-    reorganise_none h = sym (rw (behind, ← room, h))
+    none : (leb n drop_limit && leb m sets_limit && small_sets (sets_said new)) ≡ false → None ≡ whole b (reorganise c (set_front (drop 2 b)) (sets_said (past_drops b)))
+    none h = sym (rw (behind, ← room, h))
+
+    pub reorganise_large : small_sets (sets_said new) ≡ false → None ≡ whole b (reorganise c (set_front (drop 2 b)) (sets_said (past_drops b)))
+    reorganise_large h = none (rw h (and_false (leb n drop_limit && leb m sets_limit)))
+
+    pub reorganise_many : (8 < n) ⊎ (16 < m) → None ≡ whole b (reorganise c (set_front (drop 2 b)) (sets_said (past_drops b)))
+    reorganise_many h = none (go h)
+      where
+        go : (8 < n) ⊎ (16 < m) → (leb n drop_limit && leb m sets_limit && small_sets (sets_said new)) ≡ false
+        go (inl l) = rw (lt-leb n drop_limit l)
+        go (inr l) = rw (lt-leb m sets_limit l, and_false (leb n drop_limit))
 
     pub reorganise_whole : (reach : ℕ) (h : Change) → reach ≡ 1 + length (sets_bytes (sets_said new)) → h ≡ change_of (set_front (drop 2 b)) (sets_said new)
-        → (leb n drop_limit && leb m sets_limit && small) ≡ true
+        → n ≤ 8 → m ≤ 16 → small_sets (sets_said new) ≡ true
         → sized_at b ((3 + n) + reach) (Begin c) (reorganise_of h) ≡ whole b (reorganise c (set_front (drop 2 b)) (sets_said (past_drops b)))
     unfolding step_for job_for
-    reorganise_whole reach h er eh fine =
+    reorganise_whole reach h er eh few some small =
         let size : (3 + n) + reach ≡ length (cue_bytes (reorganise c (set_front (drop 2 b)) (sets_said new)))
         = rw (er, counted_length b n en) (sym (reorganise_size c (set_front (drop 2 b)) (sets_said new))) in
+        let fine : (leb n drop_limit && leb m sets_limit && small_sets (sets_said new)) ≡ true = rw (le-leb n drop_limit few, le-leb m sets_limit some, small) in
         sym (rw (behind, ← room, fine, ← size, ← eh))

@@ -1,20 +1,22 @@
 -- The loop over all steps of a play.
 use Prim.Native.Nat.{ℕ, suc, ◌+◌, ◌-◌, ◌<◌, ◌≤◌}
-use mathlib.Core.Bool.{Bool, true, false, ◌&&◌, cond}
+use mathlib.Core.Bool.{Bool, true, false, ◌&&◌}
 use mathlib.Core.List.{List}
-use mathlib.Core.Path.{◌≡◌, refl, sym, ◌∙◌}
+use mathlib.Core.Path.{◌≡◌, refl, sym, ap, ◌∙◌}
 use native.Mathlib.Omega.{arith}
 use native.Mathlib.Nat.{sub-zero}
 use native.Mathlib.Numerals.{add-one}
-use borrow.Author.Tests.{leb-true, lt-ltb, ltb-true, ltb-false, eq-eqb, eqb-true}
-use lib.Dec.{eqb, leb, ltb}
+use borrow.Author.Tests.{leb-true, eq-eqb, eqb-true}
+use lib.Dec.{eqb, leb}
 use lib.ListN.{length, get_or, drop, length-drop}
 use lib.Seq.{drop-drop}
+use Rattle.std.specs.Prelude.{Some, None}
 use Rattle.num.proofs.Tests.{and_both, left_step}
 use Rattle.num.proofs.Bools.{same_test}
+use Rattle.script.specs.declared.step.Got.{Got}
 use Rattle.script.specs.Cue.{Cue}
 use Rattle.script.specs.Cue.Cue.{append, read, fill, trim, prune, reorganise, deliver, drop_at, stop, restart, give_up, forget}
-use Rattle.script.specs.Steps.{cue_bytes, cue_at, size_at, is_tag, good_flags, stands, has_room, is_cue, got_at, are_cues}
+use Rattle.script.specs.Steps.{cue_bytes, cue_at, size_at, is_tag, good_flags, stands, has_room, is_cue, got_of, got_at, are_cues}
 
 -- no step is of no bytes
 pub cue_long : (c : Cue) → 1 ≤ length (cue_bytes c)
@@ -43,53 +45,47 @@ cue_within b h =
     let p = and_both (is_tag (get_or b 0 0) && good_flags b) (stands (cue_at b) b) h in
     leb-true _ _ (and_both (has_room (cue_at b)) (leb (length (cue_bytes (cue_at b))) (length b)) p.1).1
 
--- what code says of the size
-pub got_size : (b : List ℕ) → (got_at b).size ≡ cond (is_cue b) (size_at b) 0
-unfolding got_at size_at
-got_size b = go (is_cue b) refl
-  where
-    go : (t : Bool) → is_cue b ≡ t → (got_at b).size ≡ cond t (length (cue_bytes (cue_at b))) 0
-    go true e = rw e
-    go false e = rw e
+-- what code says of the bytes
+module _ (b : List ℕ) where
+  pub got_some : {g : Got} → got_at b ≡ Some g → (is_cue b ≡ true) × (g.size ≡ size_at b)
+  unfolding got_at size_at
+  got_some {g} e = go (is_cue b) refl
+    where
+      go : (t : Bool) → is_cue b ≡ t → (is_cue b ≡ true) × (g.size ≡ length (cue_bytes (cue_at b)))
+      go true y = let same : Some g ≡ Some (got_of (cue_at b)) = sym e ∙ rw y in let is : g ≡ got_of (cue_at b) = cc in (y, ap (λ (x : Got). x.size) is)
+      go false y = let none : Some g ≡ None = sym e ∙ rw y in cc
+
+  pub got_nothing : got_at b ≡ None → is_cue b ≡ false
+  unfolding got_at
+  got_nothing e = go (is_cue b) refl
+    where
+      go : (t : Bool) → is_cue b ≡ t → is_cue b ≡ false
+      go true y = let some : None ≡ Some (got_of (cue_at b)) = sym e ∙ rw y in cc
+      go false y = y
 
 -- i steps of n were passed, up to `past`
-pub record Walking (b : List ℕ) (at n : ℕ) (ok : Bool) (past i : ℕ) : Type 0 where
-  pub bound : i ≤ n
+pub record Walking (b : List ℕ) (at n past i : ℕ) : Type 0 where
   pub within : past ≤ length b
-  pub rest : (ok && are_cues (n - i) (drop past b)) ≡ are_cues n (drop at b)
+  pub rest : are_cues (n - i) (drop past b) ≡ are_cues n (drop at b)
 
-pub walk_none : (b : List ℕ) (at n : ℕ) → at ≤ length b → Walking b at n true at 0
-walk_none b at n h = record { bound = omega arith; within = h; rest = rw sub-zero }
+pub walk_none : (b : List ℕ) (at n : ℕ) → at ≤ length b → Walking b at n at 0
+walk_none b at n h = record { within = h; rest = rw sub-zero }
 
-module _ {b : List ℕ} {at n : ℕ} {ok : Bool} {past i : ℕ} (s : Walking b at n ok past i) (t : (ok && ltb i n) ≡ true) where
-  more_left : i < n
-  more_left = ltb-true i n (and_both ok (ltb i n) t).1
-
+module _ {b : List ℕ} {at n past i : ℕ} (s : Walking b at n past i) (left : i < n) where
   one_step : (is_cue (drop past b) && are_cues (n - suc i) (drop (past + size_at (drop past b)) b)) ≡ are_cues n (drop at b)
   unfolding are_cues
-  one_step =
-      rw (← drop-drop (size_at (drop past b)) past b)
-      (rw ((and_both ok (ltb i n) t).0, left_step n i more_left) at s.rest)
+  one_step = rw (← drop-drop (size_at (drop past b)) past b) (rw (left_step n i left) at s.rest)
 
-  pub walk_more : (m : ℕ) → m ≡ (got_at (drop past b)).size → Walking b at n (ltb 0 m) (past + m) (i + 1)
-  walk_more m e = go (is_cue (drop past b)) refl
-    where
-      go : (y : Bool) → is_cue (drop past b) ≡ y → Walking b at n (ltb 0 m) (past + m) (i + 1)
-      go true y =
-          let size : m ≡ size_at (drop past b) = e ∙ got_size (drop past b) ∙ rw y in
-          let some : ltb 0 m ≡ true = lt-ltb 0 m (omega (arith, size_positive (drop past b))) in
-          let inside : past ≤ length b = s.within in
-          let left : i < n = more_left in
-          record {
-            bound = omega arith;
-            within = omega (arith, cue_within (drop past b) y, length-drop past b);
-            rest = rw (some, add-one i, size) (rw y at one_step);
-          }
-      go false y =
-          let none : m ≡ 0 = e ∙ got_size (drop past b) ∙ rw y in
-          let inside : past ≤ length b = s.within in
-          let left : i < n = more_left in
-          record { bound = omega arith; within = omega arith; rest = rw none (rw y at one_step) }
+  pub walk_more : {g : Got} → got_at (drop past b) ≡ Some g → Walking b at n (past + g.size) (i + 1)
+  walk_more {g} e =
+      let p = got_some (drop past b) e in
+      record {
+        within = omega (arith, s.within, p.1, cue_within (drop past b) p.0, length-drop past b);
+        rest = rw (add-one i, p.1) (rw p.0 at one_step);
+      }
+
+  pub walk_stop : got_at (drop past b) ≡ None → false ≡ are_cues n (drop at b)
+  walk_stop e = rw (got_nothing (drop past b) e) at one_step
 
 end_test : (b : List ℕ) (past : ℕ) → past ≤ length b → eqb (length (drop past b)) 0 ≡ eqb past (length b)
 end_test b past h =
@@ -97,10 +93,9 @@ end_test b past h =
     (λ p. eq-eqb past (length b) (omega (arith, eqb-true (length (drop past b)) 0 p, length-drop past b)))
     (λ p. eq-eqb (length (drop past b)) 0 (omega (arith, eqb-true past (length b) p, length-drop past b)))
 
--- the loop ends where a step does not stand whole, or behind the last
-pub walk_all : {b : List ℕ} {at n : ℕ} {ok : Bool} {past i : ℕ} → Walking b at n ok past i → (ok && ltb i n) ≡ false → (ok && eqb past (length b)) ≡ are_cues n (drop at b)
+-- behind the last
+pub walk_all : {b : List ℕ} {at n past i : ℕ} → Walking b at n past i → n ≤ i → eqb past (length b) ≡ are_cues n (drop at b)
 unfolding are_cues
-walk_all {ok = false} s h = s.rest
-walk_all {b} {n} {ok = true} {past} {i} s h =
-    let over : n - i ≡ 0 = omega (arith, ltb-false i n h) in
+walk_all {b} {n} {past} {i} s h =
+    let over : n - i ≡ 0 = omega arith in
     sym (end_test b past s.within) ∙ (rw over at s.rest)

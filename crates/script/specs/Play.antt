@@ -1,8 +1,10 @@
 -- A play as bytes: the layout behind its count of bytes, then the steps behind their count.
-use Rattle.std.specs.Prelude.{ℕ, zero, suc, ◌+◌, Bool, ◌&&◌, cond, List, ◌++◌, eqb, leb, length, take, drop}
+use Rattle.std.specs.Prelude.{ℕ, zero, suc, ◌+◌, Bool, ◌&&◌, cond, List, ◌++◌, eqb, leb, length, take, drop, Result, Ok, Err}
+use Rattle.num.specs.declared.refusal.Refusal.{Refusal}
+use Rattle.num.specs.declared.refusal.Refusal.TheVariants.{Play}
 use Rattle.num.specs.Bytes.{le_bytes, number_at}
 use Rattle.layout.specs.declared.Layout.{Layout}
-use Rattle.layout.specs.Value.{good_value, blank}
+use Rattle.layout.specs.Value.{good_value}
 use Rattle.layout.specs.Codec.{is_layout, read_layout, bytes_of}
 use Rattle.script.specs.declared.judge.Judged.{Judged}
 use Rattle.script.specs.Cue.{Cue}
@@ -62,10 +64,7 @@ is_play b =
     && is_layout (layout_part b) && starts_yard (layout_of b)
     && are_cues (count_of b) (steps_of b)
 
--- ---- what code judges: 22, and nothing, where it is no play
+-- ---- what code judges: refused by 22 where it is no play
 
-abbrev pub not_judged : Judged
-not_judged = record { answer = 22; layout = blank; count = 0; first = 0 }
-
-unfoldable pub judged_of : List ℕ → Judged
-judged_of b = cond (is_play b) (record { answer = 0; layout = layout_of b; count = count_of b; first = first_of b }) not_judged
+unfoldable pub judged_of : List ℕ → Result Judged Refusal
+judged_of b = cond (is_play b) (Ok (record { layout = layout_of b; count = count_of b; first = first_of b })) (Err Play)

@@ -1,5 +1,5 @@
 -- A play's bytes put into a lent buffer, part by part.
-use Rattle.std.specs.Prelude.{ℕ, ◌+◌, Bool, true, ◌&&◌, cond, List, [], ◌∷◌, ◌≡◌, leb, length, take}
+use Rattle.std.specs.Prelude.{ℕ, ◌+◌, Bool, true, ◌&&◌, cond, List, [], ◌∷◌, ◌≡◌, leb, length, take, Option, Some, None}
 use Rattle.std.proofs.lemmas.List.Edits.{sets}
 use Rattle.layout.specs.declared.Chain.{Chain}
 use Rattle.layout.specs.declared.Layout.{Layout}
@@ -71,12 +71,12 @@ step_fits Forget j = true
 abbrev pub fits_at : Bool → List ℕ → ℕ → List ℕ → Bool
 fits_at wanted out at vs = wanted && leb (at + length vs) (length out)
 
-pub record IsPut (wanted : Bool) (at : ℕ) (vs before : List ℕ) (count : ℕ) (after : List ℕ) : Type 0 where
-  pub count_is : count ≡ cond (fits_at wanted before at vs) (length vs) 0
+pub record IsPut (wanted : Bool) (at : ℕ) (vs before : List ℕ) (count : Option ℕ) (after : List ℕ) : Type 0 where
+  pub count_is : count ≡ cond (fits_at wanted before at vs) (Some (length vs)) None
   pub buffer_is : after ≡ cond (fits_at wanted before at vs) (sets before at vs) before
 
-abbrev pub StartPut : Layout → ℕ → List ℕ → ℕ → List ℕ → Type 0
+abbrev pub StartPut : Layout → ℕ → List ℕ → Option ℕ → List ℕ → Type 0
 StartPut l n = IsPut (starts_yard l) 0 (start_bytes l n)
 
-abbrev pub StepPut : Step → Job → ℕ → List ℕ → ℕ → List ℕ → Type 0
+abbrev pub StepPut : Step → Job → ℕ → List ℕ → Option ℕ → List ℕ → Type 0
 StepPut s j at = IsPut (step_fits s j) at (cue_bytes (cue_of s j))

@@ -1,12 +1,11 @@
 -- The bytes of a step: its tag and its fields. And of steps, one behind the other.
-use Rattle.std.specs.Prelude.{ℕ, zero, suc, ◌+◌, ◌^◌, Bool, true, ◌&&◌, ◌||◌, not, cond, List, [], ◌∷◌, ◌++◌, eqb, leb, ltb, length, get_or, drop}
+use Rattle.std.specs.Prelude.{ℕ, zero, suc, ◌+◌, ◌^◌, Bool, true, ◌&&◌, ◌||◌, not, cond, List, [], ◌∷◌, ◌++◌, eqb, leb, ltb, length, get_or, drop, Option, Some, None}
 use Rattle.num.specs.Bytes.{le_bytes, number_at}
 use Rattle.layout.specs.Lay.{set_limit, sets_limit}
 use Rattle.layout.specs.Codec.{counted, sets_bytes, set_front, sets_said}
 use Rattle.client.specs.Client.{drop_limit}
-use Rattle.rule.specs.declared.Step.TheVariants.{Forget}
 use Rattle.script.specs.declared.step.Got.{Got}
-use Rattle.script.specs.Cue.{Cue, step_for, job_for, no_job}
+use Rattle.script.specs.Cue.{Cue, step_for, job_for}
 use Rattle.script.specs.Cue.Cue.{append, read, fill, trim, prune, reorganise, deliver, drop_at, stop, restart, give_up, forget}
 
 -- ---- writing
@@ -99,20 +98,17 @@ stands c b = has_room c && leb (length (cue_bytes c)) (length b)
 unfoldable pub is_cue : List ℕ → Bool
 is_cue b = is_tag (get_or b 0 0) && good_flags b && stands (cue_at b) b
 
--- ---- what code reads at the front: size 0, and nothing, where no whole step stands there
-
-abbrev pub nothing : Got
-nothing = record { size = 0; step = Forget; job = no_job }
+-- ---- what code reads at the front: none where no whole step stands there
 
 abbrev pub got_of : Cue → Got
 got_of c = record { size = length (cue_bytes c); step = step_for c; job = job_for c }
 
 -- what is taken of a step where it stands whole
-abbrev pub whole : List ℕ → Cue → Got
-whole b c = cond (stands c b) (got_of c) nothing
+abbrev pub whole : List ℕ → Cue → Option Got
+whole b c = cond (stands c b) (Some (got_of c)) None
 
-unfoldable pub got_at : List ℕ → Got
-got_at b = cond (is_cue b) (got_of (cue_at b)) nothing
+unfoldable pub got_at : List ℕ → Option Got
+got_at b = cond (is_cue b) (Some (got_of (cue_at b))) None
 
 -- ---- steps, one behind the other
 

@@ -1,4 +1,4 @@
--- Results about the sequencer's rules: each request done where nothing is against it, what a refusal leaves, and that the epoch never falls. The code's proofs cite `token_below` alone.
+-- Results about the sequencer's rules: each request done where nothing is against it, what a refusal leaves, and that the epoch never falls.
 use Prim.Native.Nat.{ℕ, ◌+◌, ◌<◌, ◌≤◌}
 use mathlib.Core.Bool.{Bool, true, false, not, cond}
 use mathlib.Core.Option.{Option, none, some}
@@ -10,11 +10,10 @@ use Rattle.num.specs.declared.Epoch.{Epoch}
 use Rattle.num.specs.declared.Position.{Position}
 use Rattle.num.specs.Limits.{limit}
 use Rattle.num.proofs.Tests.{cond_zero}
-use Rattle.sequencer.specs.Rules.{number_of, position_of, number, gives, becomes, position, after, Served, tells_of, told}
+use Rattle.sequencer.specs.Rules.{At, Number, number_of, position_of, number, gives, becomes, position, after, Served, tells_of, told}
 use Rattle.sequencer.specs.declared.Sequencer.{Sequencer}
 use Rattle.sequencer.specs.declared.Asked.{Asked}
 use Rattle.sequencer.specs.declared.Asked.TheVariants.{Token, Start, Forget}
-use Rattle.sequencer.specs.declared.Told.TheVariants.{At, Number}
 
 -- ---- the rules' own answer meets the promise
 number_back : (n : ℕ) (g : Option Position) (b : Bool) → eqb n 0 ≡ b → number_of (tells_of n (cond b g none)) ≡ n

@@ -1,5 +1,3 @@
--- Laws of the rules, for higher crates; then what the proofs of this crate share.
+-- Laws of the rules, for higher crates.
 pub mod Laws
-pub mod Promises
-pub mod Plain
 pub mod Unique

@@ -1,18 +1,24 @@
 -- What a sequencer answers to whatever it is asked, and what it is afterwards, for every epoch, count and state (docs/RULES.md, 7).
-use Rattle.std.specs.Prelude.{ℕ, ◌+◌, not, cond, List, [], ◌∷◌, ◌≡◌, eqb, leb, ltb}
+use Rattle.std.specs.Prelude.{ℕ, ◌+◌, not, cond, List, [], ◌∷◌, ◌≡◌, eqb, leb, ltb, Result, Ok, Err}
+use Rattle.std.specs.Prelude.{Option as Maybe, None, Some}
 use Rattle.std.proofs.Math.Option.{Option, none, some}
 use Rattle.num.specs.declared.Position.{Position}
 use Rattle.num.specs.Limits.{limit}
 use Rattle.num.specs.Checks.{Check, ◌if◌, lowest}
+use Rattle.num.specs.Refusals.{number as number_of_refusal}
+use Rattle.num.specs.declared.refusal.Refusal.{Refusal}
 use Rattle.sequencer.specs.declared.Sequencer.{Sequencer}
 use Rattle.sequencer.specs.declared.Asked.{Asked}
 use Rattle.sequencer.specs.declared.Asked.TheVariants.{Token, Start, Forget}
-use Rattle.sequencer.specs.declared.Told.{Told}
-use Rattle.sequencer.specs.declared.Told.TheVariants.{At, Number}
 
 -- "sequencer at epoch 1 and 0"
 abbrev pub fresh : Sequencer
 fresh = record { epoch = record { 0 = 1 }; next = record { 0 = 0 } }
+
+-- what it answers: a token's position, or a number of docs/RULES.md, 10, and nothing else
+pub data Told : Type 0 where
+  At : Position → Told
+  Number : ℕ → Told
 
 -- the number of an answer (docs/RULES.md, 10), and the position that it gives, if any
 abbrev pub number_of : Told → ℕ
@@ -64,3 +70,16 @@ tells_of n (some p) = At p
 
 unfoldable pub told : Sequencer → Asked → Told
 told s asked = tells_of (number s asked) (position s asked)
+
+-- what the code returns, as what is told: a refusal as its number
+abbrev pub told_as : {A : Type 0} → (A → Told) → Result A Refusal → Told
+told_as ok (Ok x) = ok x
+told_as ok (Err r) = Number (number_of_refusal r)
+
+abbrev pub fine : Told
+fine = Number 0
+
+-- a position, where one is given
+abbrev pub placed : Maybe Position → Told
+placed None = fine
+placed (Some p) = At p

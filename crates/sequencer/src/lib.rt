@@ -1,11 +1,11 @@
 // The sequencer: one small counter, epoch and next position, stepped where it stands.
-#![tactic(auto)]
+#![tactic(auto, unfolding(crate::specs::Rules::number, crate::specs::Rules::position, crate::specs::Rules::after))]
 
 ghost use Rattle.std.specs.Prelude.{◌≡◌};
-ghost use Rattle.sequencer.specs.Rules.{fresh, number_of, Served};
+ghost use Rattle.sequencer.specs.Rules.{At, fresh, Served, told_as, fine, placed};
 
-use num::answer::Answer;
-use num::{Epoch, Position, answer};
+use num::refusal::{Refusal, lowest};
+use num::{Epoch, Position};
 
 #[derive(Clone, Copy)]
 pub struct Sequencer {
@@ -21,17 +21,10 @@ pub enum Asked {
     Forget,
 }
 
-// What it answers: a token's position, or a number of docs/RULES.md, 10, and nothing else.
-#[derive(Clone, Copy)]
-pub enum Told {
-    At(Position),
-    Number(u8),
-}
-
-// An answer, and the sequencer afterwards.
+// What it answers, a token's position at most, and the sequencer afterwards.
 #[derive(Clone, Copy)]
 pub struct Step {
-    pub told: Told,
+    pub told: Result<Option<Position>, Refusal>,
     pub after: Sequencer,
 }
 
@@ -51,103 +44,50 @@ impl Sequencer {
     }
 }
 
-pub fn number_of(told: Told) -> u8
-    ensures { result ≡ number_of told }
+// A token at the sequencer's own epoch, while the count is not spent.
+pub fn token(s: &mut Sequencer, epoch: Epoch) -> Result<Position, Refusal>
+    ensures { Served s.old (Asked.Token epoch) (told_as At result) s.new }
 {
-    match told {
-        Told::At(_) => Answer::FINE,
-        Told::Number(n) => n,
-    }
+    lowest(&[
+        Refusal::Sealed.when(epoch != s.epoch),
+        Refusal::Spent.when(Sequencer::LIMIT <= s.next.0),
+    ])?;
+    let given = s.next;
+    s.next.0 += 1;
+    Ok(given)
 }
 
-// By value: a token at the sequencer's own epoch, while the count is not spent.
-pub fn token_step(s: Sequencer, epoch: Epoch) -> Step
-    ensures { Served s (Asked.Token epoch) result.told result.after }
+// A start at a higher epoch, with a count within the limit.
+pub fn start(s: &mut Sequencer, epoch: Epoch, count: Position) -> Result<(), Refusal>
+    ensures { Served s.old (Asked.Start epoch count) (told_as (λ _. fine) result) s.new }
 {
-    let own = s.epoch.0;
-    let next = s.next.0;
-    let spent = answer::pick(Sequencer::LIMIT <= next, Answer::SPENT, Answer::FINE);
-    let number = answer::pick(epoch.0 != own, Answer::SEALED, spent);
-    if number != Answer::FINE {
-        return Step {
-            told: Told::Number(number),
-            after: s,
-        };
-    }
-    Step {
-        told: Told::At(Position(next)),
-        after: Sequencer {
-            epoch: Epoch(own),
-            next: Position(next + 1),
-        },
-    }
+    lowest(&[
+        Refusal::Position.when(Sequencer::LIMIT < count.0),
+        Refusal::Sealed.when(epoch.0 <= s.epoch.0),
+    ])?;
+    *s = Sequencer { epoch, next: count };
+    Ok(())
 }
 
-// By value: a start at a higher epoch, with a count within the limit.
-pub fn start_step(s: Sequencer, epoch: Epoch, count: Position) -> Step
-    ensures { Served s (Asked.Start epoch count) result.told result.after }
+// The count is forgotten, and the epoch kept.
+pub fn forget(s: &mut Sequencer)
+    ensures { Served s.old Asked.Forget fine s.new }
 {
-    let own = s.epoch.0;
-    let sealed = answer::pick(epoch.0 <= own, Answer::SEALED, Answer::FINE);
-    let number = answer::pick(Sequencer::LIMIT < count.0, Answer::POSITION, sealed);
-    if number != Answer::FINE {
-        return Step {
-            told: Told::Number(number),
-            after: s,
-        };
-    }
-    Step {
-        told: Told::Number(Answer::FINE),
-        after: Sequencer { epoch, next: count },
-    }
+    s.next = Position(0);
 }
 
-// By value: the count is forgotten, and the epoch kept.
-pub fn forget_step(s: Sequencer) -> Step
-    ensures { Served s Asked.Forget result.told result.after }
-{
-    let epoch = s.epoch;
-    Step {
-        told: Told::Number(Answer::FINE),
-        after: Sequencer {
-            epoch,
-            next: Position(0),
-        },
-    }
-}
-
-// By value: whatever is asked.
+// Whatever is asked, by value: a yard keeps what comes of it only where its bag has room.
 pub fn stepped(s: Sequencer, asked: Asked) -> Step
-    ensures { Served s asked result.told result.after }
+    ensures { Served s asked (told_as placed result.told) result.after }
 {
-    match asked {
-        Asked::Token(epoch) => token_step(s, epoch),
-        Asked::Start(epoch, count) => start_step(s, epoch, count),
-        Asked::Forget => forget_step(s),
-    }
-}
-
-// Where the sequencer stands. This one and the two below it are thin over the ones by value.
-pub fn token(s: &mut Sequencer, epoch: Epoch) -> Told
-    ensures { Served s.old (Asked.Token epoch) result s.new }
-{
-    let done = token_step(*s, epoch);
-    *s = done.after;
-    done.told
-}
-
-pub fn start(s: &mut Sequencer, epoch: Epoch, count: Position) -> Told
-    ensures { Served s.old (Asked.Start epoch count) result s.new }
-{
-    let done = start_step(*s, epoch, count);
-    *s = done.after;
-    done.told
-}
-
-pub fn forget(s: &mut Sequencer) -> Told
-    ensures { Served s.old Asked.Forget result s.new }
-{
-    let done = forget_step(*s);
-    *s = done.after;
-    done.told
+    let mut after = s;
+    let told = match asked {
+        Asked::Token(epoch) => token(&mut after, epoch).map(Some),
+        Asked::Start(epoch, count) => start(&mut after, epoch, count).map(|_| None),
+        Asked::Forget => {
+            forget(&mut after);
+            Ok(None)
+        }
+    };
+    Step { told, after }
 }

@@ -6,6 +6,7 @@ ghost use Rattle.unit.specs.Unit.{Request};
 ghost use Rattle.unit.specs.Promises.{IsFresh, IsAnswered};
 ghost use Rattle.station.specs.Told.{epoch_of, position_of, IsTold, IsSealTold, IsMeasureTold};
 
+use num::refusal::number_of;
 use num::{Epoch, Position};
 use unit::edges::measure;
 use unit::memory::Unit;
@@ -19,7 +20,7 @@ use unit::write::write;
 pub extern "C" fn unit_fresh(mem: &mut [u8], number: u32, shape: u8) -> u8
     ensures { IsFresh mem.old number shape result mem.new }
 {
-    Unit::fresh(mem, number, shape)
+    number_of(Unit::fresh(mem, number, shape))
 }
 
 #[unsafe(no_mangle)]
@@ -32,7 +33,7 @@ pub extern "C" fn unit_write(
 ) -> u8
     ensures { IsAnswered mem.old (Request.write (epoch_of epoch) (position_of position) (content kind bytes.now)) result mem.new }
 {
-    write(mem, Epoch(epoch), Position(position), kind, bytes)
+    number_of(write(mem, Epoch(epoch), Position(position), kind, bytes))
 }
 
 // `start` and `length` say where in `mem` the payload lies. On a refusal the three numbers keep what they held.
@@ -47,28 +48,29 @@ pub extern "C" fn unit_read(
 ) -> u8
     ensures { IsTold mem.now (epoch_of epoch) (position_of position) kind.old start.old length.old result kind.new start.new length.new }
 {
-    let seen = read(mem, Epoch(epoch), Position(position));
-    let answer = seen.answer;
-    if answer == 0 {
-        *kind = seen.kind;
-        *start = seen.start as u64;
-        *length = seen.length as u64;
+    match read(mem, Epoch(epoch), Position(position)) {
+        Ok(seen) => {
+            *kind = seen.kind as u8;
+            *start = seen.start as u64;
+            *length = seen.length as u64;
+            0
+        }
+        Err(refusal) => refusal.number(),
     }
-    answer
 }
 
 #[unsafe(no_mangle)]
 pub extern "C" fn unit_trim(mem: &mut [u8], epoch: u32, position: u64) -> u8
     ensures { IsAnswered mem.old (Request.trim (epoch_of epoch) (position_of position)) result mem.new }
 {
-    trim(mem, Epoch(epoch), Position(position))
+    number_of(trim(mem, Epoch(epoch), Position(position)))
 }
 
 #[unsafe(no_mangle)]
 pub extern "C" fn unit_prune(mem: &mut [u8], epoch: u32, position: u64) -> u8
     ensures { IsAnswered mem.old (Request.prune (epoch_of epoch) (position_of position)) result mem.new }
 {
-    prune(mem, Epoch(epoch), Position(position))
+    number_of(prune(mem, Epoch(epoch), Position(position)))
 }
 
 // On a refusal `edge` and `written` keep what they held.
@@ -76,13 +78,14 @@ pub extern "C" fn unit_prune(mem: &mut [u8], epoch: u32, position: u64) -> u8
 pub extern "C" fn unit_seal(mem: &mut [u8], epoch: u32, edge: &mut u64, written: &mut u64) -> u8
     ensures { IsSealTold mem.old (epoch_of epoch) edge.old written.old result edge.new written.new mem.new }
 {
-    let done = seal(mem, Epoch(epoch));
-    let answer = done.answer;
-    if answer == 0 {
-        *edge = done.edges.edge.0;
-        *written = done.edges.written.0;
+    match seal(mem, Epoch(epoch)) {
+        Ok(sealed) => {
+            *edge = sealed.edge.0;
+            *written = sealed.written.0;
+            0
+        }
+        Err(refusal) => refusal.number(),
     }
-    answer
 }
 
 // The edges without a seal. On a refusal `edge` and `written` keep what they held.
@@ -90,11 +93,12 @@ pub extern "C" fn unit_seal(mem: &mut [u8], epoch: u32, edge: &mut u64, written:
 pub extern "C" fn unit_edges(mem: &[u8], edge: &mut u64, written: &mut u64) -> u8
     ensures { IsMeasureTold mem.now edge.old written.old result edge.new written.new }
 {
-    let measured = measure(mem);
-    let answer = measured.answer;
-    if answer == 0 {
-        *edge = measured.edges.edge.0;
-        *written = measured.edges.written.0;
+    match measure(mem) {
+        Ok(measured) => {
+            *edge = measured.edge.0;
+            *written = measured.written.0;
+            0
+        }
+        Err(refusal) => refusal.number(),
     }
-    answer
 }

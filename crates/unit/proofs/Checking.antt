@@ -127,7 +127,7 @@ module _ {cap : ℕ} {m : List ℕ} {count low left least at faults a b c d : �
       → w ≡ bit_and (le 8 (drop (at + 16) m)) (le 8 (drop (128 - n) full)) → x ≡ bit_and (le 8 (drop (at + 24) m)) (le 8 (drop (128 - n + 8) full))
       → y ≡ bit_and (le 8 (drop (at + 32) m)) (le 8 (drop (128 - n + 16) full)) → z ≡ bit_and (le 8 (drop (at + 40) m)) (le 8 (drop (128 - n + 24) full))
       → eqb v 0 ≡ zeros (cap - 32 - (128 - (128 - n + 32))) (drop (at + 48 + (128 - (128 - n + 32))) m)
-      → Checked cap m count low (left - 1) next (at + slot_size cap) (faults + f + g) (bit_or a w) (bit_or b x) (bit_or c y) (bit_or d z)
+      → Checked cap m count low (left - 1) next (at + slot_size cap) (faults + (f + g)) (bit_or a w) (bit_or b x) (bit_or c y) (bit_or d z)
   checked_more h c32 c80 by full r p next tag n f g w x y z v hp ep en et hn hl hg eg hf ef ew ex ey ez ev =
       let room = checked_left h in
       let up : (i j : ℕ) → at + i + j ≡ at + (i + j) = λ i j. omega arith in
@@ -135,14 +135,15 @@ module _ {cap : ℕ} {m : List ℕ} {count low left least at faults a b c d : �
       let slot = slot_words cap least at m by (omega arith) (omega arith) p tag n _ _ ep et (sym (fields_apart cap least p (tag % 256) (tag / 256))) (λ k l. hl k (le_trans l c80)) words in
       let own : good_slot cap least (drop at m) ≡ (((leb least p && ltb p limit) && (eqb g 0 && eqb v 0)) && (eqb w 0 && eqb x 0 && eqb y 0 && eqb z 0))
       = sym slot ∙ rw (← eg) (with_fields (leb least p && ltb p limit) (eqb g 0) (eqb w 0 && eqb x 0 && eqb y 0 && eqb z 0) (eqb v 0)) in
-      record {
+      let sum : faults + (f + g) ≡ faults + f + g = omega arith in
+      rw sum (record {
         so = k.so ∙ rw (slots_step h p ep, own, faults_two faults f g (ltb least next) (eqb v 0) ef, sums_apart a b c d w x y z)
             (rises least p next hp en (λ (q : ℕ). good_slots cap (left - 1) q (drop (at + slot_size cap) m)) (eqb faults 0)
             (eqb a 0 && eqb b 0 && eqb c 0 && eqb d 0) (eqb g 0 && eqb v 0)
             (eqb w 0 && eqb x 0 && eqb y 0 && eqb z 0) (leb least p && ltb p limit) refl);
         room = room;
         few = omega (arith, k.few);
-      }
+      })
 
   pub checked_all : (z : Bool) → left ≤ 0 → z ≡ zeros (length m - at) (drop at m)
       → (eqb faults 0 && (eqb a 0 && eqb b 0 && eqb c 0 && eqb d 0) && leb least limit && z) ≡ good_slots cap count low (drop 24 m)

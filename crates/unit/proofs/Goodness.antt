@@ -184,3 +184,9 @@ module _ (sh : Shape) (m : List ℕ) (size : length m ≡ memory_size sh) (k : �
 
   pub slot_within : k < sh.room → 24 + k * slot_size sh.cap + slot_size sh.cap ≤ length m
   slot_within h = omega (arith, size, mul-le-mul_right {m = suc k} {n = sh.room} (slot_size sh.cap) h)
+
+-- the last of the first n slots
+pub last_within : (sh : Shape) (m : List ℕ) (n : ℕ) → good sh m ≡ true → n ≤ count_of m → (n ≡ 0 → ⊥) → 24 + (n - 1) * slot_size sh.cap + slot_size sh.cap ≤ length m
+last_within sh m n h u z =
+    let g = is_good_lem sh m h in
+    slot_within sh m g.size (n - 1) (omega (arith, g.header.count))

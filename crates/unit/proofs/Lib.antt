@@ -8,6 +8,7 @@ pub mod Checking
 pub mod Shapes
 pub mod Places
 pub mod Answers
+pub mod Asked
 pub mod Stores
 pub mod Encoding
 pub mod Inserting

@@ -1,9 +1,10 @@
 -- Laws of slots by position: the loop that counts the slots before a position, and what `lookup` finds there.
-use Rattle.std.proofs.Common.{◌≡◌, ℕ, zero, suc, ◌+◌, ◌-◌, ◌*◌, ◌<◌, ◌≤◌, Bool, true, false, cond, eqb, ltb, List, [], ◌∷◌, length, get_or, take, drop, sym, refl, ap, ◌∙◌, le_trans, le_of_suc-le-suc, not-suc-le-zero, mul-le-mul_right, zero-mul, arith, get_or-drop, drop-drop, ltb-false, ltb-true, le-ltb, lt-ltb, eq-eqb, ne_eqb, eqb-true}
+use Rattle.std.proofs.Common.{◌≡◌, ℕ, zero, suc, ◌+◌, ◌-◌, ◌*◌, ◌<◌, ◌≤◌, Bool, true, false, cond, eqb, ltb, Option, List, [], ◌∷◌, length, get_or, take, drop, sym, refl, ap, ◌∙◌, le_trans, le_of_suc-le-suc, not-suc-le-zero, mul-le-mul_right, zero-mul, arith, get_or-drop, drop-drop, ltb-false, ltb-true, le-ltb, lt-ltb, eq-eqb, ne_eqb, eqb-true}
 use lib.Dec.{leb-suc-suc}
 use Rattle.num.specs.Bytes.{le}
 use Rattle.unit.specs.Shape.{Shape, slot_size}
-use Rattle.unit.specs.Kinds.{no_kind}
+use Rattle.unit.specs.declared.kind.Kind.{Kind}
+use Rattle.unit.specs.Kinds.{no_kind, is_kind, held_code}
 use Rattle.unit.specs.State.{Slot, nothing, lookup, before}
 use Rattle.unit.specs.Memory.{slot_at, slots_at, good_slot, good_slots, good, decode, place_of, count_of, floor_of}
 use Rattle.num.proofs.Tests.{and_both}
@@ -193,6 +194,9 @@ pub record Placed (sh : Shape) (m : List ℕ) (p n k at : ℕ) : Type 0 where
   pub index : k ≡ before p (slots_at sh.cap n (drop 24 m))
   pub offset : at ≡ 24 + k * slot_size sh.cap
 
+pub placed : (sh : Shape) (m : List ℕ) (p n k : ℕ) → good sh m ≡ true → n ≡ count_of m → k ≡ before p (slots_at sh.cap n (drop 24 m)) → Placed sh m p n k (24 + k * slot_size sh.cap)
+placed sh m p n k g u i = record { is_good = g; used = u; index = i; offset = refl }
+
 module _ {sh : Shape} {m : List ℕ} {p n k at : ℕ} (f : Placed sh m p n k at) where
   pub placed_bound : k ≤ n
   placed_bound = omega (arith, f.index, before_le p (slots_at sh.cap n (drop 24 m)), slots_length sh.cap n (drop 24 m))
@@ -228,6 +232,17 @@ module _ {sh : Shape} {m : List ℕ} {p n k at : ℕ} (f : Placed sh m p n k at)
   pub placed_kind : (q : ℕ) → k < n → q ≡ le 8 (drop at m) → q ≡ p → get_or m (at + 8) 0 ≡ (lookup p (decode sh m).slots).kind
   unfolding slot_at
   placed_kind q h e d = rw (placed_hit q h e d) (sym (get_or-drop at m 8 0))
+
+  -- the kind of the code is that of the slot
+  pub placed_code : (q : ℕ) (o : Option Kind) → k < n → q ≡ le 8 (drop at m) → q ≡ p
+      → held_code o ≡ cond (is_kind (get_or m (at + 8) 0)) (get_or m (at + 8) 0) no_kind → held_code o ≡ (lookup p (decode sh m).slots).kind
+  placed_code q o h e d c =
+      let g = is_good_lem sh m f.is_good in
+      let (low, t) = good_at sh n (floor_of m) (drop 24 m) k (rw f.used g.slots) h in
+      let y : drop (k * slot_size sh.cap) (drop 24 m) ≡ drop at m = rw (drop-drop, ← f.offset) in
+      let s = slot_fields sh.cap low (drop at m) (rw y at t) in
+      let known : is_kind (get_or m (at + 8) 0) ≡ true = rw (← get_or-drop at m 8 0) s.known in
+      c ∙ rw known (placed_kind q h e d)
 
 -- a slot that is held: it stands at its place, within the memory, with no more bytes than a slot has
 pub record Stands (sh : Shape) (m : List ℕ) (p at : ℕ) : Type 0 where

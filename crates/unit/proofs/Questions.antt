@@ -1,8 +1,12 @@
 -- Laws of the kinds: how the questions that are asked of a kind hang together. The other laws cite these, and see through no question.
-use Rattle.std.proofs.Common.{◌≡◌, ℕ, ◌≤◌, Bool, true, false, ◌||◌, eqb, leb, sym, refl, subst, arith, eqb-true, leb-true}
+use Rattle.std.proofs.Common.{◌≡◌, ℕ, ◌≤◌, Option, None, Some, is_some, ok_or, Bool, true, false, cond, not, ◌||◌, eqb, leb, sym, refl, ◌∙◌, subst, arith, eqb-true, leb-true}
 use borrow.Author.Tests.{eqb-false}
+use Rattle.num.specs.declared.refusal.Refusal.TheVariants.{Unwritten}
+use Rattle.num.specs.Refusals.{answered}
 use Rattle.num.proofs.Tests.{and_both, or_false, false_true}
-use Rattle.unit.specs.Kinds.{no_kind, data_kind, junk_kind, retired_kind, stray_kind, is_kind, is_page, has_bytes, is_gone, was_written}
+use Rattle.unit.specs.Kinds.{no_kind, data_kind, junk_kind, retired_kind, stray_kind, is_kind, is_page, has_bytes, is_gone, was_written, kind_code, held_code}
+use Rattle.unit.specs.declared.kind.Kind.{Kind}
+use Rattle.unit.specs.declared.kind.Kind.TheVariants.{Data, Junk, Retired, Stray}
 
 -- the least kind is data's
 pub kind_least : (k : ℕ) → is_kind k ≡ true → 1 ≤ k
@@ -115,3 +119,68 @@ page_cases P first second k h = go (eqb k data_kind) refl (eqb k junk_kind) refl
 pub junk_plain : has_bytes junk_kind ≡ false
 unfolding has_bytes
 junk_plain = refl
+
+-- ---- a byte that may be no kind's
+
+byte_asked : (q : ℕ → Bool) → q no_kind ≡ false → ((k : ℕ) → q k ≡ true → is_kind k ≡ true) → (b : ℕ) → q (cond (is_kind b) b no_kind) ≡ q b
+byte_asked q z f b = go (is_kind b) refl (q b) refl
+  where
+    go : (t : Bool) → is_kind b ≡ t → (s : Bool) → q b ≡ s → q (cond (is_kind b) b no_kind) ≡ q b
+    go true e s r = rw e
+    go false e true r = absurd (false_true (sym e ∙ f b r))
+    go false e false r = rw (e, z, r)
+
+pub byte_page : (b : ℕ) → is_page (cond (is_kind b) b no_kind) ≡ is_page b
+unfolding is_page
+byte_page = byte_asked is_page refl page_kind
+
+bytes_kind : (k : ℕ) → has_bytes k ≡ true → is_kind k ≡ true
+unfolding has_bytes is_kind
+bytes_kind k h = rw (eqb-true k data_kind h)
+
+pub byte_bytes : (b : ℕ) → has_bytes (cond (is_kind b) b no_kind) ≡ has_bytes b
+unfolding has_bytes
+byte_bytes = byte_asked has_bytes refl bytes_kind
+
+written_kind : (k : ℕ) → was_written k ≡ true → is_kind k ≡ true
+unfolding was_written
+written_kind k h = go (is_page k) refl
+  where
+    go : (b : Bool) → is_page k ≡ b → is_kind k ≡ true
+    go true e = page_kind k e
+    go false e = rw (eqb-true k retired_kind (rw e at h)) retired_kind_lem
+
+pub byte_written : (b : ℕ) → was_written (cond (is_kind b) b no_kind) ≡ was_written b
+unfolding was_written is_page
+byte_written = byte_asked was_written refl written_kind
+
+-- ---- what stands at a position, or nothing
+
+pub none_held : (o : Option Kind) (r : Bool) → is_some o ≡ not r → r ≡ eqb (held_code o) no_kind
+none_held None true e = refl
+none_held None false e = absurd (false_true e)
+none_held (Some k) true e = absurd (false_true (sym e))
+none_held (Some Data) false e = refl
+none_held (Some Junk) false e = refl
+none_held (Some Retired) false e = refl
+none_held (Some Stray) false e = refl
+
+pub some_held : (o : Option Kind) → is_some o ≡ not (eqb (held_code o) no_kind)
+some_held None = refl
+some_held (Some Data) = refl
+some_held (Some Junk) = refl
+some_held (Some Retired) = refl
+some_held (Some Stray) = refl
+
+pub unwritten_held : (o : Option Kind) → answered (ok_or o Unwritten) ≡ cond (eqb (held_code o) no_kind) 7 0
+unwritten_held None = refl
+unwritten_held (Some Data) = refl
+unwritten_held (Some Junk) = refl
+unwritten_held (Some Retired) = refl
+unwritten_held (Some Stray) = refl
+
+pub some_code : (k : Kind) → kind_code k ≡ no_kind → ⊥
+some_code Data e = omega arith
+some_code Junk e = omega arith
+some_code Retired e = omega arith
+some_code Stray e = omega arith

@@ -1,5 +1,5 @@
 -- The two shapes: the numbers that the code takes for granted of both, and which one a good memory is of.
-use Rattle.std.proofs.Common.{◌≡◌, ℕ, ◌%◌, ◌^◌, ◌<◌, ◌≤◌, Bool, true, false, cond, ◌&&◌, eqb, List, sym, refl, ap, ◌∙◌, subst, arith, ne_eqb, eqb-true}
+use Rattle.std.proofs.Common.{◌≡◌, ℕ, ◌%◌, ◌^◌, ◌<◌, ◌≤◌, Bool, true, false, cond, ◌&&◌, eqb, List, length, sym, refl, ap, ◌∙◌, subst, arith, ne_eqb, eqb-true}
 use borrow.Author.Tests.{eqb-false}
 use Rattle.unit.specs.Shape.{Shape, small, large, shape_for, shape_of, memory_size}
 use Rattle.unit.specs.Memory.{good, code_of}
@@ -70,6 +70,10 @@ known_code sh k = subst (λ (s : Shape). s.code ≤ 1) k (code_low sh.code)
 -- A MEMORY THAT IS GOOD IN A KNOWN SHAPE NAMES IT: what the functions promise of the shape that the memory names, they promise of this one
 pub names_shape : (sh : Shape) (m : List ℕ) → Known sh → good sh m ≡ true → shape_of m ≡ sh
 names_shape sh m k g = ap shape_for (is_good_lem sh m g).header.named ∙ k
+
+-- and it is as long as every unit's
+pub good_whole : (m : List ℕ) → good (shape_of m) m ≡ true → length m ≡ 6168
+good_whole m g = (is_good_lem (shape_of m) m g).size ∙ (sized (code_of m)).whole
 
 -- a memory whose second byte is 0 is of the small shape, as before there were two
 pub old_small : (m : List ℕ) → code_of m ≡ 0 → shape_of m ≡ small

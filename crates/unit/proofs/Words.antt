@@ -1,13 +1,14 @@
 -- Laws of zeros that are tested many at a time: as words, and as runs whose bytes are joined by `|`.
-use Rattle.std.proofs.Common.{◌≡◌, ℕ, zero, suc, ◌+◌, ◌-◌, ◌*◌, ◌%◌, ◌<◌, ◌≤◌, Bool, true, false, ◌&&◌, eqb, leb, List, [], ◌∷◌, length, get_or, drop, replicate, sym, refl, ap, ◌∙◌, not-suc-le-zero, suc-add, zero-add, add-one, arith, length-drop, get_or-drop, drop-drop, eq-eqb, ne_eqb, eqb-true, le-leb, leb-false, leb-true}
+use Rattle.std.proofs.Common.{◌≡◌, ℕ, zero, suc, ◌+◌, ◌-◌, ◌*◌, ◌/◌, ◌%◌, ◌<◌, ◌≤◌, Bool, true, false, ◌&&◌, eqb, leb, List, [], ◌∷◌, ◌++◌, length, get_or, take, drop, replicate, sym, refl, ap, ◌∙◌, le_of_suc-le-suc, not-suc-le-zero, suc-add, zero-add, add-one, arith, length-drop, get_or-drop, get_or-take, drop-drop, eq-eqb, ne_eqb, eqb-true, le-leb, leb-false, leb-true}
 use native.Mathlib.Nat.{sub-zero, suc-sub-suc, zero-sub}
 use borrow.Author.Tests.{lt-leb, eqb-false}
 use lib.Bits.{bit_or, bit_and, or_add_and, and_le_r, or_zero_l, and_zero_r, and_block, and_mask}
 use lib.Dec.{eqb-suc-zero}
-use lib.Seq.{sets, drop-nil}
-use Rattle.num.specs.Bytes.{le}
+use lib.Seq.{drop-nil}
+use Rattle.std.specs.Int.{w16, w32, w64, from_le_bytes, to_le_bytes}
+use Rattle.num.specs.Bytes.{le, le_bytes}
 use Rattle.num.proofs.Tests.{and_both}
-use Rattle.num.proofs.Numbers.{Bytes, bytes_drop}
+use Rattle.num.proofs.Numbers.{Bytes, bytes_drop, le_step}
 use Rattle.unit.specs.Zeros.{zeros, ruler}
 use Rattle.unit.proofs.Fields.{and_assoc, zeros_snoc}
 
@@ -104,7 +105,7 @@ pub ruler_length : length ruler ≡ 208
 unfolding ruler
 ruler_length = refl
 
-pub ruler_made : sets (replicate 208 255) 0 (replicate 128 0) ≡ ruler
+pub ruler_made : replicate 128 0 ++ drop 128 (replicate 208 255) ≡ ruler
 unfolding ruler
 ruler_made = refl
 
@@ -203,6 +204,89 @@ module _ (n at : ℕ) (m full : List ℕ) (by : Bytes m) (e : full ≡ ruler) wh
       let all : zeros (32 + (cap - 32) - n) (drop n r) ≡ (eqb a 0 && eqb b 0 && eqb c 0 && eqb d 0 && eqb v 0)
       = zeros_past 32 (cap - 32) n r ∙ rw (← four, ← rest) in
       sym (rw (← drop-drop n at m) (ap (λ (q : ℕ). zeros (q - n) (drop n r)) (sym g) ∙ all))
+
+-- ---- numbers as the library reads them
+
+pub word_read : (at k : ℕ) (xs ys : List ℕ) → ys ≡ take k (drop at xs) → k ≡ 8 → at + 8 ≤ length xs → from_le_bytes w64 ys ≡ le 8 (drop at xs)
+unfolding le
+word_read at k xs ys e q h =
+    let r = drop at xs in
+    let l : 8 ≤ length r = rw length-drop (omega arith) in
+    let s : (i : ℕ) → i < 8 → get_or ys i 0 ≡ get_or r i 0 = λ i n. rw (e, q) (get_or-take 8 r i 0 n) in
+    let t : (i w : ℕ) → i < 8 → le (suc w) (drop i r) ≡ get_or r i 0 + 256 * le w (drop (suc i) r) = λ i w n. le_step r i w (omega arith) in
+    let all : from_le_bytes w64 ys ≡ get_or ys 0 0 + get_or ys 1 0 * 256 + get_or ys 2 0 * 65536 + get_or ys 3 0 * 16777216 + get_or ys 4 0 * 4294967296
+    + get_or ys 5 0 * 1099511627776 + get_or ys 6 0 * 281474976710656 + get_or ys 7 0 * 72057594037927936
+    = refl in
+    all ∙ omega (
+      arith,
+      s 0 (omega arith),
+      s 1 (omega arith),
+      s 2 (omega arith),
+      s 3 (omega arith),
+      s 4 (omega arith),
+      s 5 (omega arith),
+      s 6 (omega arith),
+      s 7 (omega arith),
+      t 0 7 (omega arith),
+      t 1 6 (omega arith),
+      t 2 5 (omega arith),
+      t 3 4 (omega arith),
+      t 4 3 (omega arith),
+      t 5 2 (omega arith),
+      t 6 1 (omega arith),
+      t 7 0 (omega arith),
+    )
+
+pub pair_read : (at k : ℕ) (xs ys : List ℕ) → ys ≡ take k (drop at xs) → k ≡ 2 → at + 2 ≤ length xs → from_le_bytes w16 ys ≡ le 2 (drop at xs)
+unfolding le
+pair_read at k xs ys e q h =
+    let r = drop at xs in
+    let l : 2 ≤ length r = rw length-drop (omega arith) in
+    let s : (i : ℕ) → i < 2 → get_or ys i 0 ≡ get_or r i 0 = λ i n. rw (e, q) (get_or-take 2 r i 0 n) in
+    let t : (i w : ℕ) → i < 2 → le (suc w) (drop i r) ≡ get_or r i 0 + 256 * le w (drop (suc i) r) = λ i w n. le_step r i w (omega arith) in
+    let all : from_le_bytes w16 ys ≡ get_or ys 0 0 + get_or ys 1 0 * 256 = refl in
+    all ∙ omega (arith, s 0 (omega arith), s 1 (omega arith), t 0 1 (omega arith), t 1 0 (omega arith))
+
+pub half_read : (at k : ℕ) (xs ys : List ℕ) → ys ≡ take k (drop at xs) → k ≡ 4 → at + 4 ≤ length xs → from_le_bytes w32 ys ≡ le 4 (drop at xs)
+unfolding le
+half_read at k xs ys e q h =
+    let r = drop at xs in
+    let l : 4 ≤ length r = rw length-drop (omega arith) in
+    let s : (i : ℕ) → i < 4 → get_or ys i 0 ≡ get_or r i 0 = λ i n. rw (e, q) (get_or-take 4 r i 0 n) in
+    let t : (i w : ℕ) → i < 4 → le (suc w) (drop i r) ≡ get_or r i 0 + 256 * le w (drop (suc i) r) = λ i w n. le_step r i w (omega arith) in
+    let all : from_le_bytes w32 ys ≡ get_or ys 0 0 + get_or ys 1 0 * 256 + get_or ys 2 0 * 65536 + get_or ys 3 0 * 16777216 = refl in
+    all ∙ omega (
+      arith,
+      s 0 (omega arith),
+      s 1 (omega arith),
+      s 2 (omega arith),
+      s 3 (omega arith),
+      t 0 3 (omega arith),
+      t 1 2 (omega arith),
+      t 2 1 (omega arith),
+      t 3 0 (omega arith),
+    )
+
+-- and as it writes them
+le_take : (k w n : ℕ) → k ≤ w → take k (le_bytes w n) ≡ le_bytes k n
+unfolding le_bytes
+le_take zero w n h = refl
+le_take (suc k) zero n h = absurd (not-suc-le-zero h)
+le_take (suc k) (suc w) n h = ap (λ (bs : List ℕ). n % 256 ∷ bs) (le_take k w (n / 256) (le_of_suc-le-suc h))
+
+le_all : (n : ℕ) → to_le_bytes w64 n ≡ le_bytes 8 n
+unfolding le_bytes
+le_all n =
+    let b : n / 256 / 256 ≡ n / 65536 = omega arith in
+    let c : n / 65536 / 256 ≡ n / 16777216 = omega arith in
+    let d : n / 16777216 / 256 ≡ n / 4294967296 = omega arith in
+    let e : n / 4294967296 / 256 ≡ n / 1099511627776 = omega arith in
+    let f : n / 1099511627776 / 256 ≡ n / 281474976710656 = omega arith in
+    let g : n / 281474976710656 / 256 ≡ n / 72057594037927936 = omega arith in
+    rw (b, c, d, e, f, g) refl
+
+pub low_bytes : (k n : ℕ) → k ≤ 8 → take k (to_le_bytes w64 n) ≡ le_bytes k n
+low_bytes k n h = ap (λ (bs : List ℕ). take k bs) (le_all n) ∙ le_take k 8 n h
 
 -- ---- bytes joined by `|`
 

@@ -1,5 +1,7 @@
 -- The kinds of a slot, each by name, and the questions that are asked of a kind. No other rule names a kind by its number, and no law sees through a question.
-use Rattle.std.specs.Prelude.{ℕ, Bool, ◌&&◌, ◌||◌, ◌==◌, nat_le}
+use Rattle.std.specs.Prelude.{ℕ, Option, None, Some, Bool, ◌&&◌, ◌||◌, ◌==◌, nat_le}
+use Rattle.unit.specs.declared.kind.Kind.{Kind}
+use Rattle.unit.specs.declared.kind.Kind.TheVariants.{Data, Junk, Retired, Stray}
 
 -- no slot
 abbrev pub no_kind : ℕ
@@ -38,3 +40,16 @@ is_gone k = k == retired_kind || k == stray_kind
 -- its position was written, whether it is trimmed since or not
 unfoldable pub was_written : ℕ → Bool
 was_written k = is_page k || k == retired_kind
+
+-- ---- the kinds of the code
+
+abbrev pub kind_code : Kind → ℕ
+kind_code Data = data_kind
+kind_code Junk = junk_kind
+kind_code Retired = retired_kind
+kind_code Stray = stray_kind
+
+-- of what stands at a position, if anything does
+abbrev pub held_code : Option Kind → ℕ
+held_code None = no_kind
+held_code (Some k) = kind_code k

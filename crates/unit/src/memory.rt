@@ -6,22 +6,21 @@ ghost use Rattle.unit.specs.Shape.{slot_size, shape_of};
 ghost use Rattle.unit.specs.Zeros.{zeros, ruler};
 ghost use Rattle.unit.specs.Memory.{good_fields, good_slots, good_header, good as good_memory};
 
-use crate::field::{number_at, zeros_at};
+use crate::field::zeros_at;
 use crate::offset::{Header, Slot};
 use crate::shape::{Shape, shape_of};
-use crate::store::put_zeros;
 use crate::word::{pair_at, word_at};
-use num::Position;
+use num::{Position, units};
 
 #[derive(Clone, Copy)]
 pub struct Unit;
 
 impl Unit {
     // Units are numbered from 1 to it.
-    pub const UNITS: u32 = 8;
+    pub const UNITS: u32 = units::LAST as u32;
 
     // The same, as the byte that a memory has.
-    pub const LAST: u8 = 8;
+    pub const LAST: u8 = units::LAST;
 
     // Bytes of the whole memory, in either shape.
     pub const SIZE: usize = 6168;
@@ -40,7 +39,7 @@ fn length_of(tag: u64, t: u64, turn: u64) -> usize
 fn fault(good: bool) -> u64
     ensures { (result ≤ 1) × ((result == 0) ≡ good) }
 {
-    if good { 0 } else { 1 }
+    u64::from(!good)
 }
 
 // What counts a slot of `cap` bytes of payload that may not have this second word, whatever its position. A word that is not a length from 1 to `cap` with kind 1
@@ -49,7 +48,7 @@ fn tag_fault(cap: usize, tag: u64, t: u64, turn: u64) -> u64
     requires { (cap ≤ 80) × ((t + 1) % 2 ^ 64 ≡ tag) × (turn ≡ t / 256 + t % 256 * 72057594037927936) }
     ensures { (result ≤ 1) × ((result == 0) ≡ good_fields cap 0 0 (tag % 256) (tag / 256)) }
 {
-    fault(std::num::wrapping_sub_u64(turn, 1) < cap as u64) - fault(3 < t)
+    fault(turn.wrapping_sub(1) < cap as u64) - fault(3 < t)
 }
 
 // The word at `at`, of which only what stands under the full bytes of the ruler's word at `k` is left.
@@ -99,7 +98,6 @@ fn slots_good(mem: &[u8], cap: usize, count: u64, low: u64, full: &[u8]) -> bool
     requires { (24 + count * slot_size cap ≤ length mem.now) × (low ≤ limit) × (full.now ≡ ruler) × (32 ≤ cap) × (cap ≤ 80) × (cap % 48 ≡ 32) }
     ensures { result ≡ good_slots cap count low (drop 24 mem.now) }
 {
-    let mut left = count;
     let mut least = low;
     let mut at: usize = Header::SIZE;
     let mut faults: u64 = 0;
@@ -107,21 +105,20 @@ fn slots_good(mem: &[u8], cap: usize, count: u64, low: u64, full: &[u8]) -> bool
     let mut b: u64 = 0;
     let mut c: u64 = 0;
     let mut d: u64 = 0;
-    while 0 < left {
-        let next = std::num::wrapping_add_u64(word_at(mem, at), 1);
+    for _ in 0..count {
+        let next = word_at(mem, at).wrapping_add(1);
         let tag = word_at(mem, at + Slot::KIND);
-        let t = std::num::wrapping_sub_u64(tag, 1);
+        let t = tag.wrapping_sub(1);
         let turn = t / 256 + t % 256 * 72_057_594_037_927_936;
         let k = 128 - length_of(tag, t, turn);
         let rest = joined(mem, at + 48, cap - Shape::SMALL_PAYLOAD, full, k + 32);
-        faults = faults + fault((least < next) & (rest == 0)) + tag_fault(cap, tag, t, turn);
-        a = a | masked(mem, at + Slot::PAYLOAD, full, k);
-        b = b | masked(mem, at + 24, full, k + 8);
-        c = c | masked(mem, at + 32, full, k + 16);
-        d = d | masked(mem, at + 40, full, k + 24);
+        faults += fault((least < next) & (rest == 0)) + tag_fault(cap, tag, t, turn);
+        a |= masked(mem, at + Slot::PAYLOAD, full, k);
+        b |= masked(mem, at + 24, full, k + 8);
+        c |= masked(mem, at + 32, full, k + 16);
+        d |= masked(mem, at + 40, full, k + 24);
         least = next;
         at += Slot::PAYLOAD + cap;
-        left -= 1;
     }
     (faults == 0)
         & ((a == 0) & (b == 0) & (c == 0) & (d == 0))
@@ -134,8 +131,8 @@ fn good_slots(mem: &[u8], cap: usize, count: u64, low: u64) -> bool
     requires { (24 + count * slot_size cap ≤ length mem.now) × (low ≤ limit) × (32 ≤ cap) × (cap ≤ 80) × (cap % 48 ≡ 32) }
     ensures { result ≡ good_slots cap count low (drop 24 mem.now) }
 {
-    let mut full = [255u8; 208];
-    put_zeros(&mut full, 0, 128);
+    let mut full = [255; 208];
+    full[..128].fill(0);
     slots_good(mem, cap, count, low, &full)
 }
 
@@ -153,7 +150,7 @@ pub fn is_good(mem: &[u8]) -> bool
     good_slots(
         mem,
         sh.cap,
-        number_at(mem, Header::COUNT, Header::COUNT_WIDTH),
-        number_at(mem, Header::FLOOR, Header::FLOOR_WIDTH),
+        pair_at(mem, Header::COUNT),
+        word_at(mem, Header::FLOOR),
     )
 }

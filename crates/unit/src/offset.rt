@@ -9,15 +9,9 @@ impl Header {
 
     pub const SEALED: usize = 4;
 
-    pub const SEALED_WIDTH: usize = 4;
-
     pub const FLOOR: usize = 8;
 
-    pub const FLOOR_WIDTH: usize = 8;
-
     pub const COUNT: usize = 16;
-
-    pub const COUNT_WIDTH: usize = 2;
 
     pub const SIZE: usize = 24;
 }
@@ -26,13 +20,9 @@ impl Header {
 pub struct Slot;
 
 impl Slot {
-    pub const POSITION_WIDTH: usize = 8;
-
     pub const KIND: usize = 8;
 
     pub const LENGTH: usize = 9;
-
-    pub const SLACK_WIDTH: usize = 6;
 
     pub const PAYLOAD: usize = 16;
 }

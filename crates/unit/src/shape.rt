@@ -3,6 +3,7 @@ ghost use Rattle.std.specs.Prelude.{◌≡◌, ◌<◌, length};
 ghost use Rattle.unit.specs.Shape.{shape_for, shape_of};
 
 use crate::offset::Header;
+use num::units;
 
 #[derive(Clone, Copy)]
 pub struct Shape {
@@ -16,9 +17,9 @@ pub struct Shape {
 
 impl Shape {
     // The bytes that name the two; no higher one names a shape.
-    pub const SMALL: u8 = 0;
+    pub const SMALL: u8 = units::SMALL;
 
-    pub const LARGE: u8 = 1;
+    pub const LARGE: u8 = units::LARGE;
 
     // Bytes of payload that a slot holds, and slots of a memory, in each.
     pub const SMALL_PAYLOAD: usize = 32;

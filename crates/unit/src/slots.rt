@@ -1,16 +1,17 @@
 // The slots of a good memory, by position.
 ghost use Rattle.std.specs.Prelude.{◌≡◌, ◌+◌, ◌*◌, ◌≤◌, true, length, drop};
 ghost use Rattle.unit.specs.Shape.{slot_size};
+ghost use Rattle.unit.specs.Kinds.{held_code};
 ghost use Rattle.unit.specs.State.{before, lookup};
-ghost use Rattle.unit.specs.Memory.{slots_at, decode, place_of, floor_of, good_slots, good as good_memory};
+ghost use Rattle.unit.specs.Memory.{slots_at, decode, place_of, floor_of, good_slots};
 
-use crate::field::number_at;
+use crate::good::Good;
+use crate::kind::Kind;
 use crate::offset::{Header, Slot};
-use crate::shape::Shape;
 use crate::word::word_at;
 
 // How many of the `count` slots stand before position `p`. The last slot first, for a page is mostly written or read at the edge. The slots rise, so that
-// the half in which its place is not can be passed over.
+// the half in which its place is not can be passed over. (d) No `partition_point`: that is of a slice of elements, and positions stand a slot apart.
 pub(crate) fn place(mem: &[u8], cap: usize, count: u64, p: u64) -> u64
     requires { (24 + count * slot_size cap ≤ length mem.now) × (good_slots cap count (floor_of mem.now) (drop 24 mem.now) ≡ true) }
     ensures { result ≡ before p (slots_at cap count (drop 24 mem.now)) }
@@ -41,27 +42,26 @@ pub(crate) fn place(mem: &[u8], cap: usize, count: u64, p: u64) -> u64
     low
 }
 
-// Where the slot of a position stands, or would stand, and its kind: 0 where there is none.
+// Where the slot of a position stands, or would stand, and its kind, if there is one.
 #[derive(Clone, Copy)]
 pub(crate) struct Found {
     pub at: usize,
-    pub kind: u8,
+    pub kind: Option<Kind>,
 }
 
-pub(crate) fn find(mem: &[u8], sh: Shape, p: u64) -> Found
-    requires { (good_memory sh mem.now ≡ true) × (sh.cap ≤ 255) }
-    ensures { (result.at ≡ place_of sh mem.now p) × (result.kind ≡ (lookup p (decode sh mem.now).slots).kind) }
-{
-    let count = number_at(mem, Header::COUNT, Header::COUNT_WIDTH);
-    let before = place(mem, sh.cap, count, p);
-    let at = Header::SIZE + (before as usize) * (Slot::PAYLOAD + sh.cap);
-    if before < count {
-        if word_at(mem, at) == p {
+impl Good<'_> {
+    pub(crate) fn find(&self, p: u64) -> Found
+        ensures { (result.at ≡ place_of self.now.shape self.now.mem.now p) × (held_code result.kind ≡ (lookup p (decode self.now.shape self.now.mem.now).slots).kind) }
+    {
+        let count = self.count();
+        let before = place(self.mem, self.shape.cap, count, p);
+        let at = Header::SIZE + (before as usize) * (Slot::PAYLOAD + self.shape.cap);
+        if before < count && word_at(self.mem, at) == p {
             return Found {
-                at: at,
-                kind: mem[at + Slot::KIND],
+                at,
+                kind: Kind::of(self.mem[at + Slot::KIND]),
             };
         }
+        Found { at, kind: None }
     }
-    Found { at: at, kind: 0 }
 }

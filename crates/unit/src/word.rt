@@ -1,23 +1,22 @@
-// Eight bytes of a unit's memory as one number. Without a loop and without a test, so that the compiler makes one load of it.
+// Numbers of a constant width in a unit's memory: the compiler makes one load or store of each.
 ghost use Rattle.std.specs.Prelude.{◌≡◌, ◌+◌, ◌≤◌, length, drop};
-ghost use Rattle.num.specs.Bytes.{le};
-
-use num::bytes::wide;
+ghost use Rattle.std.proofs.lemmas.List.Edits.{sets};
+ghost use Rattle.num.specs.Bytes.{le, le_bytes};
 
 // The number in the two bytes at `at`.
 pub(crate) fn pair_at(bytes: &[u8], at: usize) -> u64
     requires { at + 2 ≤ length bytes.now }
-    ensures { (result ≡ le 2 (drop at bytes.now)) × (result ≤ 65535) }
+    ensures { result ≡ le 2 (drop at bytes.now) }
 {
-    wide(bytes[at]) + wide(bytes[at + 1]) * 256
+    u64::from(u16::from_le_bytes(bytes[at..at + 2].try_into().unwrap()))
 }
 
 // The number in the four bytes at `at`.
-fn half_at(bytes: &[u8], at: usize) -> u64
+pub(crate) fn half_at(bytes: &[u8], at: usize) -> u64
     requires { at + 4 ≤ length bytes.now }
-    ensures { (result ≡ le 4 (drop at bytes.now)) × (result ≤ 4294967295) }
+    ensures { result ≡ le 4 (drop at bytes.now) }
 {
-    pair_at(bytes, at) + pair_at(bytes, at + 2) * 65536
+    u64::from(u32::from_le_bytes(bytes[at..at + 4].try_into().unwrap()))
 }
 
 // The number in the eight bytes at `at`.
@@ -25,5 +24,13 @@ pub(crate) fn word_at(bytes: &[u8], at: usize) -> u64
     requires { at + 8 ≤ length bytes.now }
     ensures { result ≡ le 8 (drop at bytes.now) }
 {
-    half_at(bytes, at) + half_at(bytes, at + 4) * 4_294_967_296
+    u64::from_le_bytes(bytes[at..at + 8].try_into().unwrap())
+}
+
+// Stores the lowest `WIDTH` bytes of `n` at `at`.
+pub(crate) fn put_number<const WIDTH: usize>(mem: &mut [u8], at: usize, n: u64)
+    requires { (at + WIDTH ≤ length mem.old) × (WIDTH ≤ 8) }
+    ensures { mem.new ≡ sets mem.old at (le_bytes WIDTH n) }
+{
+    mem[at..at + WIDTH].copy_from_slice(&n.to_le_bytes()[..WIDTH]);
 }

@@ -13,8 +13,7 @@ use Rattle.num.specs.declared.Request.{Request}
 use Rattle.client.specs.declared.Query.{Query}
 use Rattle.client.specs.declared.Response.{Response}
 use Rattle.client.specs.declared.Stamp.{Stamp}
-use Rattle.client.specs.declared.Act.{Act}
-use Rattle.client.specs.declared.Act.TheVariants.{Rests, Sends, Ends}
+use Rattle.client.specs.Turn.{Act, Rests, Sends, Ends}
 use Rattle.rule.specs.declared.Letter.{Letter}
 use Rattle.rule.specs.World.{blank_letter}
 use Rattle.rule.specs.Steps.{without, keeping, posted, answers}

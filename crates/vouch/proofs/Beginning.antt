@@ -15,11 +15,10 @@ use Rattle.client.specs.declared.Response.{Response}
 use Rattle.client.specs.declared.Client.{Client}
 use Rattle.client.specs.declared.state.Job.{Job}
 use Rattle.client.specs.declared.Stage.TheVariants.{Idle}
-use Rattle.client.specs.declared.turn.Turn.{Turn}
 use Rattle.client.specs.Message.{no_page, plain}
 use Rattle.client.specs.declared.Ask.TheVariants.{Fetch}
 use Rattle.client.specs.Client.{busy, holding, last_number}
-use Rattle.client.specs.Turn.{numbered, next, sent}
+use Rattle.client.specs.Turn.{Turn, numbered, next, sent}
 use Rattle.client.specs.Job.{past, too_long, too_many_drops}
 use Rattle.client.specs.Begin.{begin_answer, with_job, begin_turn}
 use Rattle.client.specs.Take.{goes_on, answered}

@@ -20,7 +20,7 @@ use Rattle.sequencer.specs.Rules.{fresh}
 use Rattle.client.specs.declared.Page.{Page}
 use Rattle.client.specs.declared.state.Job.{Job}
 use Rattle.rule.specs.declared.Letter.{Letter}
-use Rattle.rule.specs.declared.Stepped.{Stepped}
+use Rattle.rule.specs.Stepped.{Stepped}
 use Rattle.rule.specs.declared.Step.{Step}
 use Rattle.rule.specs.World.{World, shape_under, blank_letter}
 use Rattle.rule.specs.Steps.{Done, step}

@@ -15,7 +15,7 @@ use Rattle.client.specs.declared.state.Job.{Job}
 use Rattle.client.specs.declared.Stage.{Stage}
 use Rattle.client.specs.declared.Stage.TheVariants.{Idle, Fetching, Working}
 use Rattle.client.specs.declared.Client.{Client}
-use Rattle.client.specs.declared.turn.Turn.{Turn}
+use Rattle.client.specs.Turn.{Turn}
 use Rattle.client.specs.Client.{busy}
 use Rattle.client.specs.Take.{answered, takes}
 use Rattle.client.proofs.Turns.{takes_cases}

@@ -23,7 +23,7 @@ use Rattle.client.specs.declared.Stamp.{Stamp}
 use Rattle.client.specs.declared.state.Job.{Job}
 use Rattle.client.specs.declared.Work.TheVariants as work
 use Rattle.client.specs.declared.Outcome.{Outcome}
-use Rattle.client.specs.declared.turn.Turn.{Turn}
+use Rattle.client.specs.Turn.{Turn}
 use Rattle.rule.specs.declared.Letter.{Letter}
 use Rattle.rule.specs.declared.Body.{Body}
 use Rattle.rule.specs.declared.Body.TheVariants.{Asks, Answers}

@@ -9,11 +9,8 @@ use lib.Dec.{eqb, ltb}
 use lib.ListN.{length, set}
 use Rattle.client.specs.declared.Reply.{Reply}
 use Rattle.client.specs.declared.state.Job.{Job}
-use Rattle.client.specs.declared.Act.{Act}
-use Rattle.client.specs.declared.Act.TheVariants.{Rests, Sends, Ends}
-use Rattle.client.specs.declared.turn.Turn.{Turn}
 use Rattle.client.specs.Client.{busy}
-use Rattle.client.specs.Turn.{rests, over, ends, outcome_of}
+use Rattle.client.specs.Turn.{Act, Rests, Sends, Ends, Turn, rests, over, ends, outcome_of}
 use Rattle.client.specs.Begin.{begin_turn, give_up, restarted}
 use Rattle.client.specs.Take.{takes}
 use Rattle.rule.specs.declared.Letter.{Letter}

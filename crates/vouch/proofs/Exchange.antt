@@ -17,9 +17,8 @@ use Rattle.client.specs.declared.Query.{Query}
 use Rattle.client.specs.declared.Response.{Response}
 use Rattle.client.specs.declared.Stamp.{Stamp}
 use Rattle.client.specs.declared.Client.{Client}
-use Rattle.client.specs.declared.turn.Turn.{Turn}
 use Rattle.client.specs.Client.{fresh, last_number}
-use Rattle.client.specs.Turn.{numbered, next, sends}
+use Rattle.client.specs.Turn.{Turn, numbered, next, sends}
 use Rattle.client.specs.Take.{answered, takes}
 use Rattle.client.proofs.Turns.{sends_sent, takes_awaited}
 use Rattle.rule.specs.declared.Letter.{Letter}

@@ -35,8 +35,7 @@ use Rattle.unit.specs.Unit.Request.{seal}
 use Rattle.unit.proofs.Lasting.{lasts, seal_rest, seal_edges}
 use Rattle.sequencer.specs.declared.Sequencer.{Sequencer}
 use Rattle.sequencer.specs.declared.Asked.TheVariants.{Start}
-use Rattle.sequencer.specs.declared.Told.TheVariants.{Number}
-use Rattle.sequencer.specs.Rules.{number, told, after}
+use Rattle.sequencer.specs.Rules.{Number, number, told, after}
 use Rattle.sequencer.specs.Rules.{position as position_at}
 use Rattle.client.specs.declared.Reply.TheVariants.{Edged}
 use Rattle.client.specs.Client.{no_change}

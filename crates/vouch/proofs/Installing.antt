@@ -12,23 +12,20 @@ use Rattle.num.specs.declared.Position.{Position}
 use Rattle.num.specs.declared.Request.{Request}
 use Rattle.num.proofs.Within.{Within}
 use Rattle.layout.specs.declared.Layout.{Layout}
-use Rattle.layout.specs.declared.plan.Started.{Started}
-use Rattle.layout.specs.declared.holder.Offered.{Offered}
+use Rattle.layout.specs.Holder.{Offered}
 use Rattle.layout.specs.Value.{good_value}
-use Rattle.layout.specs.Plan.{started_at}
+use Rattle.layout.specs.Plan.{StartAnswer, started_at}
 use Rattle.unit.specs.State.{State}
 use Rattle.sequencer.specs.declared.Sequencer.{Sequencer}
-use Rattle.sequencer.specs.declared.Told.{Told}
 use Rattle.sequencer.specs.declared.Asked.TheVariants as asked
-use Rattle.sequencer.specs.Rules.{after as sequencer_after}
+use Rattle.sequencer.specs.Rules.{Told, after as sequencer_after}
 use Rattle.client.specs.declared.Ask.TheVariants as ask
 use Rattle.client.specs.declared.Reply.TheVariants.{Fine}
 use Rattle.client.specs.declared.Client.{Client}
 use Rattle.client.specs.declared.Phase.TheVariants.{Offering, Starting}
-use Rattle.client.specs.declared.turn.Turn.{Turn}
 use Rattle.client.specs.Message.{no_page, plain, offering}
 use Rattle.client.specs.Client.{in_phase, planning, idle, last_number}
-use Rattle.client.specs.Turn.{numbered, next, sends, over}
+use Rattle.client.specs.Turn.{Turn, numbered, next, sends, over}
 use Rattle.client.specs.Reorganise.{offers, all_sealed, starts}
 use Rattle.client.specs.Take.{answered}
 use Rattle.client.proofs.Turns.{start_cases, works_good}
@@ -145,8 +142,8 @@ module _ (w : World) (c : ℕ) (sound : Sound w) (may : Conditions w c) where
     offers_so : all_sealed y e ≡ sends y₂ (offering plan)
     offers_so =
         let starts_so = ap (λ (l : Layout). started_at l e) plans ∙ start_is w c sound may e in
-        start_cases (λ (t : Turn). t ≡ sends y₂ (offering plan)) y e (λ fine. ap (λ (o : Started). offers (planning y o.layout) o.first) starts_so)
-        (λ failed. absurd (failed (ap (λ (o : Started). o.answer) starts_so)))
+        start_cases (λ (t : Turn). t ≡ sends y₂ (offering plan)) y e (λ fine. ap (λ (o : StartAnswer). offers (planning y o.layout) o.first) starts_so)
+        (λ failed. absurd (failed (ap (λ (o : StartAnswer). o.answer) starts_so)))
 
     offer_asked : Asked w c w.letters may.of_client sound.four_clients may.few_letters k plan us us s s y₂ (offering plan) (bare Fine)
     unfolding serve offering_to

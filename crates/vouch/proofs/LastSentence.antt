@@ -15,7 +15,7 @@ use Rattle.num.specs.Edges.{no_edges}
 use Rattle.num.specs.declared.Epoch.{Epoch}
 use Rattle.num.specs.declared.Position.{Position}
 use Rattle.num.proofs.Tests.{and_both}
-use Rattle.layout.specs.declared.plan.Planned.{Planned}
+use Rattle.layout.specs.Plan.{Planned}
 use Rattle.layout.specs.declared.Layout.{Layout}
 use Rattle.layout.specs.Lay.{Lay, good, rising, ◌in?◌, units_of}
 use Rattle.layout.specs.Value.{lay_of, value_of}
@@ -37,13 +37,12 @@ use Rattle.unit.proofs.Marks.{ReadTells, read_tells}
 use Rattle.unit.proofs.Marks.ReadTells.{read_position, read_sealed, read_trimmed, read_unwritten, read_page}
 use Rattle.num.specs.declared.Request.{Request}
 use Rattle.client.specs.declared.Client.{Client}
-use Rattle.client.specs.declared.turn.Turn.{Turn}
 use Rattle.client.specs.declared.state.Job.{Job}
 use Rattle.client.specs.declared.Work.TheVariants.{Read, Reorganise}
 use Rattle.client.specs.declared.Outcome.{Outcome}
 use Rattle.client.specs.Client.{fresh, holding, planning, idle, drop_limit, last_number}
 use Rattle.client.specs.Message.{is_showable}
-use Rattle.client.specs.Turn.{numbered}
+use Rattle.client.specs.Turn.{Turn, numbered}
 use Rattle.client.specs.Turn.{ends as ends_with}
 use Rattle.client.specs.Begin.{with_job}
 use Rattle.client.specs.Way.{plan_for}

@@ -7,9 +7,8 @@ use native.Mathlib.Omega.{arith}
 use borrow.Author.Tests.{eqb-true, eqb-false, ne_eqb}
 use lib.Dec.{eqb}
 use Rattle.layout.specs.declared.Layout.{Layout}
-use Rattle.layout.specs.declared.holder.Offered.{Offered}
 use Rattle.layout.specs.Value.{lay_of, good_value}
-use Rattle.layout.specs.Holder.{offer_answer, offered_to, fetched_from}
+use Rattle.layout.specs.Holder.{Offered, offer_answer, offered_to, fetched_from}
 use Rattle.layout.proofs.ValueOf.{value_of_good}
 use Rattle.layout.proofs.OfferedTo.{installed as offered_installed, stays, shape_stays, offer_fine, fetched_good}
 use Rattle.client.specs.declared.Reply.{Reply}

@@ -10,10 +10,9 @@ use lib.ListN.{length}
 use Rattle.num.specs.declared.Edges.{Edges}
 use Rattle.layout.specs.declared.Layout.{Layout}
 use Rattle.layout.specs.declared.Wish.{Wish}
-use Rattle.layout.specs.declared.plan.Started.{Started}
 use Rattle.layout.specs.Lay.{Lay, units_of}
 use Rattle.layout.specs.Value.{lay_of, value_of}
-use Rattle.layout.specs.Plan.{planned, last_start, new_start, start_answer, new_of, planned_for, started_at}
+use Rattle.layout.specs.Plan.{StartAnswer, planned, last_start, new_start, start_answer, new_of, planned_for, started_at}
 use Rattle.layout.proofs.GoodLay.{Good, good_says}
 use Rattle.layout.proofs.ValueOf.{value_of_good}
 use Rattle.layout.proofs.ReorganiseAnswer.{Reorganises, reorganise_fine}
@@ -62,11 +61,11 @@ module _ (k : Layout) (drops : List ℕ) (w : Wish) (planned_fine : (planned_for
 
     module _ (started_fine : (started_at (planned_for k drops w).layout e).answer ≡ 0) where
       starts : start_answer (lay_of k) (new_of w) g ≡ 0
-      starts = sym (ap (λ (s : Started). s.answer) started_is) ∙ started_fine
+      starts = sym (ap (λ (s : StartAnswer). s.answer) started_is) ∙ started_fine
 
       pub started_lay : lay_of (started_at (planned_for k drops w).layout e).layout ≡ planned (lay_of k) drops (new_of w) (new_start (lay_of k) g)
       started_lay =
-          ap (λ (s : Started). lay_of s.layout) started_is ∙ rw starts (plan_back (lay_of k) drops (new_of w) (new_start (lay_of k) g) k_good fine.plan)
+          ap (λ (s : StartAnswer). lay_of s.layout) started_is ∙ rw starts (plan_back (lay_of k) drops (new_of w) (new_start (lay_of k) g) k_good fine.plan)
 
       -- its sets, and so its units, are those of the plan
       pub started_sets : (lay_of (started_at (planned_for k drops w).layout e).layout).sets ≡ (lay_of (planned_for k drops w).layout).sets

@@ -16,14 +16,11 @@ use Rattle.client.specs.declared.Ask.TheVariants as ask
 use Rattle.client.specs.declared.Reply.{Reply}
 use Rattle.client.specs.declared.Response.{Response}
 use Rattle.client.specs.declared.Stamp.{Stamp}
-use Rattle.client.specs.declared.Act.{Act}
-use Rattle.client.specs.declared.Act.TheVariants.{Rests, Sends, Ends}
 use Rattle.client.specs.declared.Client.{Client}
 use Rattle.client.specs.declared.state.Job.{Job}
-use Rattle.client.specs.declared.turn.Turn.{Turn}
 use Rattle.client.specs.Message.{plain}
 use Rattle.client.specs.Client.{busy, fresh}
-use Rattle.client.specs.Turn.{rests, ends, sent, next}
+use Rattle.client.specs.Turn.{Act, Rests, Sends, Ends, Turn, rests, ends, sent, next}
 use Rattle.client.specs.Begin.{with_job, begin_turn, give_up, restart_answer, restarted}
 use Rattle.client.specs.Take.{answered, awaited, takes}
 use Rattle.client.proofs.Clients.{Awaited, awaited_by, is_awaited}

@@ -24,10 +24,8 @@ use Rattle.client.specs.declared.Reply.TheVariants.{Held}
 use Rattle.client.specs.declared.Response.{Response}
 use Rattle.client.specs.declared.Client.{Client}
 use Rattle.client.specs.declared.state.Job.{Job}
-use Rattle.client.specs.declared.Act.TheVariants.{Ends}
 use Rattle.client.specs.declared.Outcome.{Outcome}
-use Rattle.client.specs.declared.turn.Turn.{Turn}
-use Rattle.client.specs.Turn.{outcome_of, over}
+use Rattle.client.specs.Turn.{Ends, Turn, outcome_of, over}
 use Rattle.client.specs.Read.{on_read}
 use Rattle.rule.specs.declared.Letter.{Letter}
 use Rattle.rule.specs.declared.Body.{Body}

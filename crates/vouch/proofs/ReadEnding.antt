@@ -27,12 +27,9 @@ use Rattle.client.specs.declared.Stage.TheVariants.{Idle, Fetching, Working}
 use Rattle.client.specs.declared.Phase.TheVariants.{Drawing, Writing, Reading, Filling, Looking, Trimming, Pruning, Sealing, Offering, Starting}
 use Rattle.client.specs.declared.Client.{Client}
 use Rattle.client.specs.declared.state.Job.{Job}
-use Rattle.client.specs.declared.Act.{Act}
-use Rattle.client.specs.declared.Act.TheVariants.{Rests, Ends}
-use Rattle.client.specs.declared.turn.Turn.{Turn}
 use Rattle.client.specs.Message.{no_refusal, is_showable, no_page, plain}
 use Rattle.client.specs.Client.{busy, last_number, in_phase, holding}
-use Rattle.client.specs.Turn.{rests, over, ends, outcome_of, sent, sends, otherwise}
+use Rattle.client.specs.Turn.{Act, Rests, Ends, Turn, rests, over, ends, outcome_of, sent, sends, otherwise}
 use Rattle.client.specs.Way.{tail_for}
 use Rattle.client.specs.Read.{reads, page_taken, on_read}
 use Rattle.client.specs.Take.{goes_on, holds, on_fetched, answered, awaited, takes}

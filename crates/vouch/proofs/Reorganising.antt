@@ -13,7 +13,6 @@ use Rattle.num.specs.declared.Edges.{Edges}
 use Rattle.num.specs.Edges.{largest}
 use Rattle.num.proofs.Tests.{and_both, false_true}
 use Rattle.num.proofs.Within.{Within, says_within, largest_within}
-use Rattle.client.specs.declared.turn.Turn.{Turn}
 use Rattle.layout.specs.declared.Layout.{Layout}
 use Rattle.layout.specs.Lay.{Lay, ◌in?◌, units_of}
 use Rattle.layout.specs.Value.{lay_of, good_value}
@@ -32,7 +31,7 @@ use Rattle.client.specs.declared.Client.{Client}
 use Rattle.client.specs.declared.Phase.TheVariants.{Sealing}
 use Rattle.client.specs.Message.{no_page, plain}
 use Rattle.client.specs.Client.{in_phase, last_number}
-use Rattle.client.specs.Turn.{numbered, next, sends}
+use Rattle.client.specs.Turn.{Turn, numbered, next, sends}
 use Rattle.client.specs.Way.{unit_above}
 use Rattle.client.specs.Reorganise.{all_sealed, seals, seals_on}
 use Rattle.client.specs.Take.{answered}

@@ -30,12 +30,10 @@ use Rattle.client.specs.declared.Stamp.{Stamp}
 use Rattle.client.specs.declared.Client.{Client}
 use Rattle.client.specs.declared.Work.TheVariants.{Read}
 use Rattle.client.specs.declared.Phase.TheVariants.{Reading}
-use Rattle.client.specs.declared.Act.TheVariants.{Ends}
 use Rattle.client.specs.declared.Outcome.{Outcome}
-use Rattle.client.specs.declared.turn.Turn.{Turn}
 use Rattle.client.specs.Message.{last_refusal, is_showable, no_page, plain}
 use Rattle.client.specs.Client.{fresh, busy, job_of, in_phase, last_number}
-use Rattle.client.specs.Turn.{sent_so_far, outcome_of, numbered, next, sends, over}
+use Rattle.client.specs.Turn.{Ends, Turn, sent_so_far, outcome_of, numbered, next, sends, over}
 use Rattle.client.specs.Read.{on_read}
 use Rattle.client.specs.Way.{tail_for}
 use Rattle.client.specs.Take.{goes_on, worked, answered}

@@ -25,12 +25,9 @@ use Rattle.client.specs.declared.Stage.TheVariants.{Idle, Fetching, Working}
 use Rattle.client.specs.declared.Phase.{Phase}
 use Rattle.client.specs.declared.Phase.TheVariants.{Drawing, Writing, Reading, Filling, Looking, Trimming, Pruning, Sealing, Offering, Starting}
 use Rattle.client.specs.declared.Client.{Client}
-use Rattle.client.specs.declared.Act.{Act}
-use Rattle.client.specs.declared.Act.TheVariants.{Rests, Sends, Ends}
-use Rattle.client.specs.declared.turn.Turn.{Turn}
 use Rattle.client.specs.Message.{no_refusal, plain, bearing}
 use Rattle.client.specs.Client.{in_phase, at_position, holding}
-use Rattle.client.specs.Turn.{ends, sends, otherwise}
+use Rattle.client.specs.Turn.{Act, Rests, Sends, Ends, Turn, ends, sends, otherwise}
 use Rattle.client.specs.Way.{units_for, head_for, after_for}
 use Rattle.client.specs.Append.{draws, writes, writes_on, not_written, on_token, on_written}
 use Rattle.client.specs.Take.{goes_on, on_fetched, worked, answered}

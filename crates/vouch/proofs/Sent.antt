@@ -16,9 +16,8 @@ use Rattle.client.specs.declared.Work.TheVariants.{Append}
 use Rattle.client.specs.declared.Client.{Client}
 use Rattle.client.specs.declared.Outcome.{Outcome}
 use Rattle.client.specs.declared.state.Job.{Job}
-use Rattle.client.specs.declared.turn.Turn.{Turn}
 use Rattle.client.specs.Client.{busy}
-use Rattle.client.specs.Turn.{numbered, next, sent_so_far}
+use Rattle.client.specs.Turn.{Turn, numbered, next, sent_so_far}
 use Rattle.client.specs.Way.{units_for}
 use Rattle.client.specs.Begin.{with_job}
 use Rattle.client.specs.Take.{answered}

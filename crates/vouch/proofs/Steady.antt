@@ -24,10 +24,9 @@ use Rattle.client.specs.declared.Phase.{Phase}
 use Rattle.client.specs.declared.Stage.TheVariants.{Idle, Fetching, Working}
 use Rattle.client.specs.declared.Phase.TheVariants.{Drawing, Writing, Reading, Filling, Looking, Trimming, Pruning, Sealing, Offering, Starting}
 use Rattle.client.specs.declared.Client.{Client}
-use Rattle.client.specs.declared.turn.Turn.{Turn}
 use Rattle.client.specs.Message.{no_refusal, is_showable, no_page, plain, bearing, offering, number_of, if_held, if_given, if_fine, if_shown, if_edged}
 use Rattle.client.specs.Client.{busy, token_limit, last_number, in_phase, at_position, carrying, holding, planning}
-use Rattle.client.specs.Turn.{rests, over, ends, sent, sends, otherwise}
+use Rattle.client.specs.Turn.{Turn, rests, over, ends, sent, sends, otherwise}
 use Rattle.client.specs.Way.{head_for, tail_for, after_for, unit_above, plan_for, start_for}
 use Rattle.client.specs.Append.{draws, writes, writes_at, on_token, writes_on, not_at_head, not_later, not_written, on_written}
 use Rattle.client.specs.Read.{reads, page_taken, on_read}

@@ -13,10 +13,9 @@ use Rattle.layout.specs.declared.Layout.{Layout}
 use Rattle.client.specs.declared.Stamp.{Stamp}
 use Rattle.client.specs.declared.Query.{Query}
 use Rattle.client.specs.declared.Client.{Client}
-use Rattle.client.specs.declared.turn.Turn.{Turn}
 use Rattle.client.specs.declared.Stage.{Stage}
 use Rattle.client.specs.Client.{fresh, busy, idle}
-use Rattle.client.specs.Turn.{outcome_of, numbered, next, sent}
+use Rattle.client.specs.Turn.{Turn, outcome_of, numbered, next, sent}
 use Rattle.client.proofs.Clients.{idle_life, idle_used, idle_stage}
 use Rattle.rule.specs.declared.Letter.{Letter}
 use Rattle.rule.specs.World.{World, is_client, client_at}

@@ -14,10 +14,9 @@ use Rattle.client.specs.declared.Stage.{Stage}
 use Rattle.client.specs.declared.Stage.TheVariants.{Idle, Fetching, Working}
 use Rattle.client.specs.declared.Client.{Client}
 use Rattle.client.specs.declared.Outcome.{Outcome}
-use Rattle.client.specs.declared.turn.Turn.{Turn}
 use Rattle.client.specs.Message.{no_page}
 use Rattle.client.specs.Client.{busy}
-use Rattle.client.specs.Turn.{outcome_of, rests, over, ends, numbered, sent, sends, otherwise}
+use Rattle.client.specs.Turn.{Turn, outcome_of, rests, over, ends, numbered, sent, sends, otherwise}
 use Rattle.client.proofs.Turns.{sends_cases, otherwise_cases}
 use Rattle.history.specs.Words.{Answer}
 use Rattle.history.specs.History.{History}

@@ -22,10 +22,9 @@ use Rattle.client.specs.declared.Stage.TheVariants.{Idle, Working}
 use Rattle.client.specs.declared.Phase.TheVariants.{Looking}
 use Rattle.client.specs.declared.Client.{Client}
 use Rattle.client.specs.declared.state.Job.{Job}
-use Rattle.client.specs.declared.turn.Turn.{Turn}
 use Rattle.client.specs.Message.{plain}
 use Rattle.client.specs.Client.{busy, fresh, idle}
-use Rattle.client.specs.Turn.{rests, over, ends, sent, numbered, next}
+use Rattle.client.specs.Turn.{Turn, rests, over, ends, sent, numbered, next}
 use Rattle.client.specs.Begin.{with_job, begin_turn, give_up, restart_answer, restarted}
 use Rattle.client.specs.Take.{awaited, takes}
 use Rattle.rule.specs.declared.Letter.{Letter}

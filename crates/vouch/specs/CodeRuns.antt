@@ -7,13 +7,12 @@ use Rattle.layout.specs.declared.Layout.{Layout}
 use Rattle.unit.specs.declared.shape.Shape.{Shape}
 use Rattle.sequencer.specs.declared.Sequencer.{Sequencer}
 use Rattle.rule.specs.declared.Letter.{Letter}
-use Rattle.rule.specs.declared.Made.{Made}
-use Rattle.rule.specs.declared.Stepped.{Stepped}
+use Rattle.rule.specs.Stepped.{Stepped}
 use Rattle.client.specs.declared.Page.{Page}
 use Rattle.client.specs.declared.state.Job.{Job}
 use Rattle.rule.specs.Steps.{Done, step}
 use Rattle.rule.specs.Lent.{Lent, IsStep, lent_number, seen}
-use Rattle.rule.specs.Fresh.{IsMade}
+use Rattle.rule.specs.Fresh.{Made, IsMade}
 use Rattle.vouch.specs.Runs.{Move, Moves, ◌≼◌, result, world}
 use Rattle.vouch.specs.Runs.Moves.{none, ◌▸◌}
 use Rattle.vouch.specs.Demand.{AppendDone}

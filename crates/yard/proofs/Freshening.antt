@@ -2,7 +2,7 @@
 use Prim.Native.Nat.{ℕ, suc, ◌+◌, ◌-◌, ◌*◌, ◌<◌, ◌≤◌}
 use mathlib.Core.Bool.{true, false, ◌&&◌, not}
 use mathlib.Core.List.{List, [], ◌++◌}
-use mathlib.Core.Path.{◌≡◌, sym, ap, ◌∙◌}
+use mathlib.Core.Path.{◌≡◌, sym, ◌∙◌}
 use native.Mathlib.Omega.{arith}
 use borrow.Author.Tests.{eqb-true, eq-eqb, ne_eqb, not-false}
 use lib.Dec.{eqb}
@@ -25,10 +25,11 @@ use Rattle.unit.proofs.Keeping.{fresh_valid}
 use Rattle.unit.proofs.Holding.{encode_holds}
 use Rattle.sequencer.specs.declared.Sequencer.{Sequencer}
 use Rattle.sequencer.specs.Rules as sequencer
+use Rattle.rule.specs.declared.Letter.{Letter}
 use Rattle.rule.specs.Lent.{units_bytes}
-use Rattle.rule.specs.Fresh.{fresh_units, fresh_number_of, fresh_number, fresh_yard, fresh_lent, makes}
-use Rattle.yard.specs.InsidePrepared.{IsPrepared}
-use Rattle.yard.proofs.Blanks.{blanked_first, blanked_whole}
+use Rattle.rule.specs.Fresh.{fresh_units, fresh_number_of, fresh_number, fresh_yard, fresh_lent, makes, IsMade}
+use Rattle.yard.specs.Bag.{blanked}
+use Rattle.yard.proofs.Blanks.{blanked_whole}
 
 -- ---- the memories
 
@@ -112,32 +113,16 @@ layout_known l places size z =
     let (b, v) = cond_zero (not (good_value l && eqb l.epoch.0 1)) 10 _ (omega arith) u in
     value_known l (and_both (good_value l) (eqb l.epoch.0 1) (not-false (good_value l && eqb l.epoch.0 1) b)).0
 
-module _ (l : Layout) (s : Sequencer) (places : ℕ) (m : List ℕ) where
-  pub prepared_not : (k : ℕ) → fresh_number_of l places (length m) ≡ k → (k ≡ 0 → ⊥) → IsPrepared l s places m (record { made = record { answer = k; yard = fresh_yard blank }; sequencer = s; blanks = 0 }) m
+module _ (l : Layout) (s : Sequencer) (table : List Letter) (m : List ℕ) where
+  pub made_not : (k : ℕ) → fresh_number_of l (length table) (length m) ≡ k → (k ≡ 0 → ⊥) → IsMade l s table m (record { answer = k; yard = fresh_yard blank }) s table m
   unfolding makes fresh_number fresh_number_of
-  prepared_not k e z =
-      let f : eqb (fresh_number_of l places (length m)) 0 ≡ false = ne_eqb _ 0 (λ t. z (sym e ∙ t)) in
-      record {
-        makes_it = λ table q. record {
-          answer_is = sym e ∙ ap (λ (n : ℕ). fresh_number_of l n (length m)) (sym q);
-          yard_is = rw (q, f);
-          sequencer_is = rw (q, f);
-          table_is = rw (q, f) (blanked_first table);
-          memories_is = rw (q, f);
-        };
-      }
+  made_not k e z =
+      let f : eqb (fresh_number_of l (length table) (length m)) 0 ≡ false = ne_eqb _ 0 (λ t. z (sym e ∙ t)) in
+      record { answer_is = sym e; yard_is = rw f; sequencer_is = rw f; table_is = rw f; memories_is = rw f }
 
-  pub prepared : fresh_number_of l places (length m) ≡ 0 → {after : List ℕ} → after ≡ units_bytes (shape_for l.shape) (fresh_units 1 8)
-      → IsPrepared l s places m (record { made = record { answer = 0; yard = fresh_yard l }; sequencer = sequencer.fresh; blanks = 32 }) after
+  pub made : fresh_number_of l (length table) (length m) ≡ 0 → {after : List ℕ} → after ≡ units_bytes (shape_for l.shape) (fresh_units 1 8)
+      → IsMade l s table m (record { answer = 0; yard = fresh_yard l }) sequencer.fresh (blanked table 32) after
   unfolding makes fresh_lent fresh_number fresh_number_of
-  prepared z e =
-      let f : eqb (fresh_number_of l places (length m)) 0 ≡ true = eq-eqb _ 0 z in
-      record {
-        makes_it = λ table q. record {
-          answer_is = sym z ∙ ap (λ (n : ℕ). fresh_number_of l n (length m)) (sym q);
-          yard_is = rw (q, f);
-          sequencer_is = rw (q, f);
-          table_is = rw (q, f) (blanked_whole table 32 (q ∙ table_long l places (length m) z));
-          memories_is = rw (q, f) e;
-        };
-      }
+  made z e =
+      let f : eqb (fresh_number_of l (length table) (length m)) 0 ≡ true = eq-eqb _ 0 z in
+      record { answer_is = sym z; yard_is = rw f; sequencer_is = rw f; table_is = rw f (blanked_whole table 32 (table_long l (length table) (length m) z)); memories_is = rw f e }

@@ -5,17 +5,15 @@ use mathlib.Core.List.{List, [], ◌∷◌, ◌++◌, append_assoc, append-nil}
 use mathlib.Core.Path.{◌≡◌, refl, sym, ap, ◌∙◌}
 use native.Mathlib.Nat.{not-suc-le-zero, le_of_suc-le-suc}
 use native.Mathlib.Omega.{arith}
-use borrow.Author.Tests.{lt-ltb, le-ltb, le-leb}
-use lib.Dec.{leb}
-use lib.ListN.{length, get_or, take, drop, set, replicate, take-append-drop, length-append, length-drop}
+use borrow.Author.Tests.{lt-ltb, le-leb}
+use lib.ListN.{length, get_or, take, drop, set, replicate, take-append-drop, length-append}
 use lib.Seq.{length-take-le, drop-cons}
-use Rattle.num.proofs.Tests.{and_false}
 use Rattle.rule.specs.declared.Letter.{Letter}
 use Rattle.rule.specs.World.{blank_letter}
 use Rattle.yard.specs.Bag.{move_up, close_up, put_at, drop_at}
 use Rattle.rule.specs.Steps.{without, keeping}
 use Rattle.rule.specs.Lent.{laid}
-use Rattle.yard.specs.InsideMoves.{posting, count_after}
+use Rattle.yard.specs.InsideMoves.{posting, left_at, count_after}
 use Rattle.yard.proofs.Delivering.{without_length}
 
 moved_is : (ls : List Letter) (n : ℕ) → n ≤ length ls → move_up ls n ≡ take n ls ++ (blank_letter ∷ drop n ls)
@@ -35,30 +33,22 @@ set_seam : (xs : List Letter) (y : Letter) (ys : List Letter) (a : Letter) → s
 set_seam [] y ys a = refl
 set_seam (x ∷ xs) y ys a = ap (λ (t : List Letter). x ∷ t) (set_seam xs y ys a)
 
-pub set_past : (xs : List Letter) (n : ℕ) (a : Letter) → length xs ≤ n → set xs n a ≡ xs
-set_past [] n a h = refl
-set_past (x ∷ xs) zero a h = absurd (not-suc-le-zero h)
-set_past (x ∷ xs) (suc n) a h = ap (λ (t : List Letter). x ∷ t) (set_past xs n a (le_of_suc-le-suc h))
-
 module _ (table : List Letter) (n i : ℕ) (l : Letter) (long : length table ≡ 32) (few : n ≤ 32) where
   front : length (take n table) ≡ n
   front = length-take-le n table (omega arith)
-
-  undropped : drop_at table n n ≡ table
-  undropped = rw (le-ltb n n (omega arith), and_false (leb n (length table)))
 
   -- what stands behind the letters: as many blank places as they left, and the rest
   behind : (ls : List Letter) (k j : ℕ) → length ls ≡ k → n - k ≡ j → laid ls n table ≡ ls ++ (replicate j blank_letter ++ drop (max n k) table)
   unfolding laid
   behind ls k j e d = rw (e, d) (append_assoc ls (replicate j blank_letter) (drop (max n k) table))
 
-  stays : laid (take n table ++ []) n table ≡ put_at (drop_at table n n) 32 l
+  stays : laid (take n table ++ []) n table ≡ table
   stays =
       let z : n - n ≡ 0 = omega arith in
       let m : max n n ≡ n = omega arith in
-      rw (append-nil (take n table), undropped, set_past table 32 l (omega arith)) (behind (take n table) n 0 front z ∙ rw m (take-append-drop n table))
+      rw (append-nil (take n table)) (behind (take n table) n 0 front z ∙ rw m (take-append-drop n table))
 
-  comes : n + 1 ≤ 32 → laid (take n table ++ (l ∷ [])) n table ≡ put_at (drop_at table n n) n l
+  comes : n + 1 ≤ 32 → laid (take n table ++ (l ∷ [])) n table ≡ put_at table n l
   comes h =
       let e : length (take n table ++ (l ∷ [])) ≡ n + 1 = length-append (take n table) (l ∷ []) ∙ rw front in
       let z : n - (n + 1) ≡ 0 = omega arith in
@@ -68,7 +58,7 @@ module _ (table : List Letter) (n i : ℕ) (l : Letter) (long : length table ≡
       let p : set table n l ≡ take n table ++ (l ∷ drop (suc n) table) =
       ap (λ (u : List Letter). set u n l) t ∙ ap (λ (k : ℕ). set (take n table ++ (get_or table n blank_letter ∷ drop (suc n) table)) k l) (sym front)
       ∙ set_seam (take n table) (get_or table n blank_letter) (drop (suc n) table) l in
-      behind (take n table ++ (l ∷ [])) (n + 1) 0 e z ∙ rw (m, append_assoc, undropped) (sym p)
+      behind (take n table ++ (l ∷ [])) (n + 1) 0 e z ∙ rw (m, append_assoc) (sym p)
 
   module _ (h : i < n) where
     abbrev W : List Letter
@@ -80,12 +70,11 @@ module _ (table : List Letter) (n i : ℕ) (l : Letter) (long : length table ≡
     dropped : drop_at table n i ≡ W ++ (blank_letter ∷ drop n table)
     dropped = rw (le-leb n (length table) (omega arith), lt-ltb i n h) (closed_is table n i h (omega arith))
 
-    goes : laid (W ++ []) n table ≡ put_at (drop_at table n i) 32 l
+    goes : laid (W ++ []) n table ≡ drop_at table n i
     goes =
         let z : n - (n - 1) ≡ 1 = omega arith in
         let m : max n (n - 1) ≡ n = omega arith in
-        let k : length (W ++ (blank_letter ∷ drop n table)) ≤ 32 = rw (length-append W (blank_letter ∷ drop n table), short, length-drop n table) (omega arith) in
-        rw (append-nil W, dropped, set_past (W ++ (blank_letter ∷ drop n table)) 32 l k) (behind W (n - 1) 1 short z ∙ rw m)
+        rw (append-nil W, dropped) (behind W (n - 1) 1 short z ∙ rw m)
 
     replaced : laid (W ++ (l ∷ [])) n table ≡ put_at (drop_at table n i) (n - 1) l
     replaced =
@@ -94,14 +83,10 @@ module _ (table : List Letter) (n i : ℕ) (l : Letter) (long : length table ≡
         let m : max n n ≡ n = omega arith in
         behind (W ++ (l ∷ [])) n 0 e z ∙ rw (m, append_assoc, dropped, ← short, set_seam)
 
-laid_32 : (table : List Letter) (n i : ℕ) (keep posts : Bool) (l : Letter) → length table ≡ 32 → n ≤ 32 → (keep ≡ false → i < n) → count_after n keep posts ≤ 32
-    → laid (keeping keep i (take n table) ++ posting posts l) n table ≡ put_at (drop_at table n (cond keep n i)) (cond posts (cond keep n (n - 1)) 32) l
-laid_32 table n i true true l long few there room = comes table n i l long few room
-laid_32 table n i true false l long few there room = stays table n i l long few
-laid_32 table n i false true l long few there room = replaced table n i l long few (there refl)
-laid_32 table n i false false l long few there room = goes table n i l long few (there refl)
-
--- THE TABLE AFTER A STEP. places: where a letter that does not come would go, past the end
-pub laid_is : (table : List Letter) (places n i : ℕ) (keep posts : Bool) (l : Letter) → length table ≡ 32 → places ≡ 32 → n ≤ 32 → (keep ≡ false → i < n) → count_after n keep posts ≤ 32
-    → laid (keeping keep i (take n table) ++ posting posts l) n table ≡ put_at (drop_at table n (cond keep n i)) (cond posts (cond keep n (n - 1)) places) l
-laid_is table places n i keep posts l long e few there room = rw e (laid_32 table n i keep posts l long few there room)
+-- THE TABLE AFTER A STEP
+pub laid_is : (table : List Letter) (n i : ℕ) (keep posts : Bool) (l : Letter) → length table ≡ 32 → n ≤ 32 → (keep ≡ false → i < n) → count_after n keep posts ≤ 32
+    → laid (keeping keep i (take n table) ++ posting posts l) n table ≡ cond posts (put_at (cond keep table (drop_at table n i)) (left_at n keep) l) (cond keep table (drop_at table n i))
+laid_is table n i true true l long few there room = comes table n i l long few room
+laid_is table n i true false l long few there room = stays table n i l long few
+laid_is table n i false true l long few there room = replaced table n i l long few (there refl)
+laid_is table n i false false l long few there room = goes table n i l long few (there refl)

@@ -2,10 +2,8 @@
 pub mod Drops
 pub mod Doing
 pub mod Memories
-pub mod Places
 pub mod Serving
 pub mod Blanks
-pub mod Counting
 pub mod Stepping
 pub mod Delivering
 pub mod Laying

@@ -5,8 +5,8 @@ use mathlib.Core.List.{List, ◌++◌, append_assoc}
 use mathlib.Core.Path.{◌≡◌, refl, sym, ap, ◌∙◌}
 use native.Mathlib.Nat.{not-suc-le-zero, le_of_suc-le-suc}
 use native.Mathlib.Omega.{arith}
-use borrow.Author.Tests.{eqb-true}
-use lib.Dec.{eqb}
+use borrow.Author.Tests.{eqb-true, leb-true}
+use lib.Dec.{eqb, leb}
 use lib.ListN.{length, get_or, take, drop, set, length-take, length-drop}
 use lib.Seq.{drop-drop, take-add, get_or-take}
 use Rattle.num.specs.Bytes.{le, number_at}
@@ -23,6 +23,7 @@ use Rattle.client.specs.declared.Page.{Page}
 use Rattle.client.specs.declared.UnitAsk.{UnitAsk}
 use Rattle.client.specs.declared.Response.{Response}
 use Rattle.unit.specs.Unit.{fresh_unit}
+use Rattle.rule.specs.World.{is_unit}
 use Rattle.rule.specs.Lent.{good_unit, good_units, units_in, units_bytes}
 use Rattle.rule.specs.Serve.{unit_says, unit_after}
 use Rattle.rule.proofs.Testing.{bytes_take, good_parts, good_here, units_same}
@@ -88,6 +89,12 @@ first_names shape m g =
 pub first_named : (shape : ℕ) (m : List ℕ) → good_units shape 1 8 m ≡ true → good_units (code_of m) 1 8 m ≡ true
 first_named shape m g = rw (first_names shape m g) g
 
+-- units are numbered from 1 to 8
+pub unit_numbered : (u : ℕ) → is_unit u ≡ true → (1 ≤ u) × (u - 1 < 8)
+unit_numbered u h =
+    let (l, m) = and_both (leb 1 u) (leb u 8) h in
+    (leb-true 1 u l, omega (arith, leb-true 1 u l, leb-true u 8 m))
+
 -- ---- the loop that tests them
 
 byte_at : (sh : Shape) (m : List ℕ) (k : ℕ) → good sh m ≡ true → k < 24 → number_at 1 k m ≡ get_or m k 0
@@ -108,9 +115,6 @@ test_one shape n m = go (good (shape_of m) m) refl
 pub record Passed (shape : ℕ) (m : List ℕ) (i : ℕ) : Type 0 where
   pub within : i ≤ 8
   pub left : good_units shape 1 8 m ≡ good_units shape (suc i) (8 - i) (drop (i * 6168) m)
-
-pub passed_none : (shape : ℕ) (m : List ℕ) → Passed shape m 0
-passed_none shape m = record { within = omega arith; left = refl }
 
 module _ {shape : ℕ} {m : List ℕ} {i : ℕ} (p : Passed shape m i) (h : i < 8) where
   here : good_units shape 1 8 m ≡ (good_unit shape (suc i) (part m i) && good_units shape (suc (suc i)) (8 - suc i) (drop (suc i * 6168) m))

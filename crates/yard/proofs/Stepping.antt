@@ -9,6 +9,9 @@ use lib.Dec.{eqb, leb}
 use lib.ListN.{length, get_or}
 use Rattle.num.specs.Checks.{Check, lowest, ◌if◌}
 use Rattle.num.proofs.Tests.{false_true, cond_zero}
+use Rattle.std.specs.Prelude.{Result, Err}
+use Rattle.num.specs.declared.refusal.Refusal.{Refusal}
+use Rattle.num.specs.Refusals.{number as number_of}
 use Rattle.unit.specs.State.{State}
 use Rattle.sequencer.specs.declared.Sequencer.{Sequencer}
 use Rattle.sequencer.specs.declared.Asked.TheVariants as asked
@@ -16,18 +19,22 @@ use Rattle.sequencer.specs.Rules.{after}
 use Rattle.client.specs.declared.Query.{Query}
 use Rattle.client.specs.declared.Client.{Client}
 use Rattle.client.specs.declared.state.Job.{Job}
-use Rattle.client.specs.declared.Act.{Act}
-use Rattle.client.specs.declared.Act.TheVariants.{Rests, Sends, Ends}
-use Rattle.client.specs.declared.turn.Turn.{Turn}
+use Rattle.client.specs.Turn.{Act, Rests, Sends, Ends, Turn}
 use Rattle.client.specs.Client.{fresh, last_number, busy}
 use Rattle.client.specs.Job.{job_checks}
-use Rattle.client.specs.Begin.{ready_checks, ready_answer, begin_turn, give_up, restart_answer, restarted}
+use Rattle.client.specs.Begin.{ready_checks, ready_answer, begin_answer, begin_turn, give_up, restart_answer, restarted}
 use Rattle.client.proofs.Turns.{give_up_cases}
 use Rattle.rule.specs.declared.Letter.{Letter}
 use Rattle.rule.specs.declared.Yard.{Yard}
 use Rattle.rule.specs.World.{is_client, running}
 use Rattle.rule.specs.Steps.{Done, refused, fine, keeping, without, posted, turned, begin_number, begins, drops, stops, restart_number, restarts, gives_up, forgets}
-use Rattle.yard.specs.InsideMoves.{world_with, posting, done_of, Moved, quiet, refusing, with_client_in, with_stopped_in, sends, letter_of, turning}
+use Rattle.yard.specs.declared.moves.Core.{Core}
+use Rattle.yard.specs.declared.moves.Moves.{Moves as Decision}
+use Rattle.yard.specs.InsideMoves.{moves_in, world_with, posting, done_of, Moved, quiet, refusing, with_client_in, with_stopped_in, sends, letter_of, turning}
+
+-- a refusal that `?` passes on
+pub passed_on : (k : Core) {r : Result Decision Refusal} {e : Refusal} → (x : Refusal) × (r ≡ Err x) × (x ≡ e) → moves_in k r ≡ refusing k.yard k.sequencer (number_of e)
+passed_on k is = rw (is.1, is.2)
 
 -- a step that no operation ends with, and that leaves the letters
 pub moved_quiet : {rule : List Letter → List State → Done} {n i : ℕ} (y : Yard) (s : Sequencer) (k : ℕ) → y.count ≡ n
@@ -38,6 +45,11 @@ moved_quiet y s k q h = record {
   there = λ z. absurd (false_true (sym z));
   room = λ l. omega arith;
 }
+
+-- of a table with one row
+pub lowest_one : (k : ℕ) (b : Bool) (n : ℕ) → (k ≡ 0 → ⊥) → k ≡ cond b n 0 → k ≡ n
+lowest_one k true n z e = e
+lowest_one k false n z e = absurd (z e)
 
 -- ---- a client's turn
 
@@ -73,10 +85,27 @@ module _ (y : Yard) (s : Sequencer) (c : ℕ) where
     unfolding begins begin_number
     begins_nobody q = moved_quiet y s 17 refl (λ ls us e. rw q)
 
+    number_is : number ≡ cond (not (eqb (ready_answer known) 0)) (ready_answer known) (cond (leb 32 y.count) 16 (lowest (job_checks j y.held.shape)))
+    number_is = ready_first known (16 if leb 32 y.count ∷ job_checks j y.held.shape)
+
+    -- the client is not ready, the bag is full, or what is asked is not to be had
+    pub unready : {k : ℕ} → (k ≡ 0 → ⊥) → k ≡ ready_answer known → k ≡ number
+    unready {k} z e = rw (number_is, ne_eqb (ready_answer known) 0 (λ t. z (e ∙ t))) e
+
+    pub crowded : {k : ℕ} → (k ≡ 0 → ⊥) → ready_answer known ≡ 0 → k ≡ cond (leb 32 y.count) 16 0 → k ≡ number
+    crowded {k} z r e = rw (number_is, r) (go (leb 32 y.count) e)
+      where
+        go : (b : Bool) → k ≡ cond b 16 0 → k ≡ cond b 16 (lowest (job_checks j y.held.shape))
+        go true f = f
+        go false f = absurd (z f)
+
+    pub unasked : {k : ℕ} → ready_answer known ≡ 0 → ◌≡◌ {A = ℕ} (cond (leb 32 y.count) 16 0) 0 → k ≡ begin_answer known j y.held.shape → k ≡ number
+    unasked {k} r b e = rw (number_is, r, (cond_zero (leb 32 y.count) 16 0 (omega arith) b).0) (rw r at (e ∙ ready_first known (job_checks j y.held.shape)))
+
     module _ (q : is_client c ≡ true) where
-      pub begins_refused : (number ≡ 0 → ⊥) → Moved (λ ls us. begins (world_with y s ls us) c j) y.count 0 (refusing y s number)
+      pub begins_refused : {k : ℕ} → (k ≡ 0 → ⊥) → k ≡ number → Moved (λ ls us. begins (world_with y s ls us) c j) y.count 0 (refusing y s k)
       unfolding begins begin_number
-      begins_refused z = moved_quiet y s number refl (λ ls us e. rw (q, e, ne_eqb number 0 z))
+      begins_refused {k} z n = rw n (moved_quiet y s number refl (λ ls us e. rw (q, e, ne_eqb number 0 (λ t. z (n ∙ t)))))
 
       full_not : number ≡ 0 → y.count < 32
       full_not z =
@@ -109,9 +138,9 @@ module _ (y : Yard) (s : Sequencer) (c : ℕ) where
   gives_up_nobody q = moved_quiet y s 17 refl (λ ls us e. rw q)
 
   module _ (q : is_client c ≡ true) where
-    pub restarts_spent : (restart_answer known ≡ 0 → ⊥) → Moved (λ ls us. restarts (world_with y s ls us) c) y.count 0 (refusing y s 19)
+    pub restarts_spent : {k : ℕ} → (k ≡ 0 → ⊥) → k ≡ restart_answer known → Moved (λ ls us. restarts (world_with y s ls us) c) y.count 0 (refusing y s k)
     unfolding restarts restart_number
-    restarts_spent z = moved_quiet y s 19 refl (λ ls us e. rw (q, ne_eqb (restart_answer known) 0 z))
+    restarts_spent {k} z e = let n : k ≡ 19 = lowest_one k _ 19 z e in rw n (moved_quiet y s 19 refl (λ ls us f. rw (q, ne_eqb (restart_answer known) 0 (λ t. z (e ∙ t)))))
 
     pub restarts_fine : restart_answer known ≡ 0 → Moved (λ ls us. restarts (world_with y s ls us) c) y.count 0 (quiet (with_client_in y c (restarted known)) s true 0)
     unfolding restarts restart_number

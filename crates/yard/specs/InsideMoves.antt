@@ -1,27 +1,41 @@
 -- Names for what the private functions that decide a step promise: by value, what a step leaves of the yard, and what it does to the bag.
-use Rattle.std.specs.Prelude.{ℕ, ◌+◌, ◌-◌, ◌<◌, ◌≤◌, Bool, true, false, cond, List, [], ◌∷◌, ◌++◌, ◌≡◌, length, get_or, set}
-use Rattle.layout.specs.declared.Layout.{Layout}
+use Rattle.std.specs.Prelude.{ℕ, ◌+◌, ◌-◌, ◌<◌, ◌≤◌, Bool, true, false, cond, List, [], ◌∷◌, ◌++◌, ◌≡◌, ltb, length, get_or, set, Result, Ok, Err}
+use Rattle.std.specs.Option.{is_some, unwrap_or}
+use Rattle.num.specs.declared.refusal.Refusal.{Refusal}
+use Rattle.num.specs.Refusals.{number}
 use Rattle.unit.specs.declared.shape.Shape.{Shape}
 use Rattle.unit.specs.State.{State}
 use Rattle.sequencer.specs.declared.Sequencer.{Sequencer}
 use Rattle.client.specs.declared.Query.{Query}
 use Rattle.client.specs.declared.Stamp.{Stamp}
 use Rattle.client.specs.declared.Client.{Client}
-use Rattle.client.specs.declared.Act.{Act}
-use Rattle.client.specs.declared.Act.TheVariants.{Rests, Sends, Ends}
-use Rattle.client.specs.declared.turn.Turn.{Turn}
-use Rattle.client.specs.Turn.{no_outcome}
+use Rattle.client.specs.declared.Outcome.{Outcome}
+use Rattle.client.specs.declared.Response.{Response}
+use Rattle.client.specs.Turn.{Act, Rests, Sends, Ends, Turn, no_outcome}
 use Rattle.rule.specs.declared.Letter.{Letter}
 use Rattle.rule.specs.declared.Yard.{Yard}
-use Rattle.yard.specs.declared.machine.Service.{Service}
-use Rattle.yard.specs.declared.moves.Moves.{Moves}
+use Rattle.yard.specs.declared.moves.Core.{Core}
+use Rattle.yard.specs.declared.moves.Moves.{Moves as Decision}
 use Rattle.rule.specs.World.{World, letter_limit, blank_letter}
 use Rattle.rule.specs.Steps.{Done, keeping, request, ended, answer_to}
 use Rattle.rule.specs.Lent.{units_bytes}
+use Rattle.rule.specs.Stepped.{who_of, outcome_of}
+use Rattle.yard.specs.Bag.{put_at, drop_at}
 
 -- the yard with some letters and some units
 abbrev pub world_with : Yard → Sequencer → List Letter → List State → World
 world_with y s ls us = record { held = y.held; clients = y.clients; stopped = y.stopped; units = us; sequencer = s; letters = ls }
+
+-- what a step decides, by numbers: the yard's count is as it was
+pub record Moves : Type 0 where
+  pub answer : ℕ
+  pub who : ℕ
+  pub outcome : Outcome
+  pub yard : Yard
+  pub sequencer : Sequencer
+  pub keeps : Bool
+  pub posts : Bool
+  pub letter : Letter
 
 -- a new letter goes to the end
 abbrev pub posting : Bool → Letter → List Letter
@@ -37,9 +51,21 @@ done_of ls i m us = record {
   world = world_with m.yard m.sequencer (keeping m.keeps i ls ++ posting m.posts m.letter) us;
 }
 
--- how many letters there are then
+-- how many letters are left, and how many there are then
+abbrev pub left_at : ℕ → Bool → ℕ
+left_at n keeps = cond keeps n (n - 1)
+
 abbrev pub count_after : ℕ → Bool → Bool → ℕ
-count_after n keeps posts = cond keeps n (n - 1) + cond posts 1 0
+count_after n keeps posts = left_at n keeps + cond posts 1 0
+
+-- the bag has room for them, or 16
+abbrev pub room_answer : ℕ → Bool → Bool → ℕ
+room_answer n keeps posts = cond (ltb letter_limit (count_after n keeps posts)) 16 0
+
+-- what a table becomes that has n letters, the one at hand at i
+abbrev pub table_after : ℕ → ℕ → Moves → List Letter → List Letter
+table_after n i m table =
+    cond m.posts (put_at (cond m.keeps table (drop_at table n i)) (left_at n m.keeps) m.letter) (cond m.keeps table (drop_at table n i))
 
 -- the moves do what a rule says, whatever the letters are, of which there are n; i is the place of the letter that goes where one goes
 pub record Moved (rule : List Letter → List State → Done) (n i : ℕ) (m : Moves) : Type 0 where
@@ -102,17 +128,34 @@ turning y s keeps c t = record {
   letter = letter_of c t.client.life t.act t.query;
 }
 
-abbrev pub with_held_in : Yard → Layout → Yard
-with_held_in y l = record { held = l; clients = y.clients; stopped = y.stopped; count = y.count }
-
-abbrev pub answering : Yard → Bool → Bool → Stamp → Service → Moves
-answering y keeps keeps_answer s v = record {
+-- y and q: the yard and the sequencer once the machine has served
+abbrev pub answering : Yard → Sequencer → Bool → Bool → Stamp → Response → Moves
+answering y q keeps keeps_answer s r = record {
   answer = 0;
   who = 0;
   outcome = no_outcome;
-  yard = with_held_in y v.held;
-  sequencer = v.sequencer;
+  yard = y;
+  sequencer = q;
   keeps = keeps;
   posts = keeps_answer;
-  letter = answer_to s v.response;
+  letter = cond keeps_answer (answer_to s r) blank_letter;
 }
+
+-- ---- what the code decides, as that
+
+abbrev pub moves_of : Decision → Moves
+moves_of m = record {
+  answer = 0;
+  who = who_of m.ended;
+  outcome = outcome_of m.ended;
+  yard = m.core.yard;
+  sequencer = m.core.sequencer;
+  keeps = m.keeps;
+  posts = is_some m.posts;
+  letter = unwrap_or m.posts blank_letter;
+}
+
+-- a refusal leaves the yard and the sequencer k
+abbrev pub moves_in : Core → Result Decision Refusal → Moves
+moves_in k (Ok m) = moves_of m
+moves_in k (Err r) = refusing k.yard k.sequencer (number r)

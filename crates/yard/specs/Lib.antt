@@ -2,4 +2,3 @@ pub mod Bag
 pub mod InsideMoves
 pub mod InsideParts
 pub mod InsideSettled
-pub mod InsidePrepared

@@ -1,139 +1,96 @@
 // A letter is delivered: a request to its machine, an answer to its client.
-ghost use Rattle.std.specs.Prelude.{◌≡◌, Bool, true, false, ℕ, ◌<◌};
+ghost use Rattle.std.specs.Prelude.{◌≡◌, Bool, true, ℕ, ◌<◌};
 ghost use Rattle.rule.specs.World.{shape_under};
 ghost use Rattle.rule.specs.Lent.{good_units};
 ghost use Rattle.rule.specs.Serve.{unserved};
 ghost use Rattle.rule.specs.Steps.{delivered, delivers};
 ghost use Rattle.yard.specs.InsideParts.{world_of};
-ghost use Rattle.yard.specs.InsideMoves.{world_with, Moved, Decided, answering};
+ghost use Rattle.yard.specs.InsideMoves.{moves_of, moves_in, world_with, Moved, Decided, answering};
 
-use crate::machine::{Service, serve};
-use crate::moves::{Moves, client_of, count_after, is_client, is_sending, refused, turned};
+use crate::machine::serve;
+use crate::moves::{Core, Moves, has_room, is_client, is_sending};
 use crate::other_steps::is_running;
 use client::take::take;
-use client::{Ask, Outcome, Reply, Response, Stamp};
-use num::answer::Answer;
+use client::{Ask, Reply, Response};
+use num::refusal::Refusal;
 use rule::{Body, Letter, Yard};
-use sequencer::Sequencer;
+
+// A letter under way, whether it is kept, and whether a machine's answer is.
+#[derive(Clone, Copy)]
+pub(crate) struct Delivery {
+    pub letter: Letter,
+    pub keeps: bool,
+    pub keeps_answer: bool,
+}
 
 // Does it ask a unit that there is not, or one that has stopped?
-fn is_unserved(stopped: [bool; Yard::UNITS], ask: Ask) -> bool
-    ensures { result ≡ unserved stopped ask }
+fn is_unserved(stopped: &[bool; Yard::UNITS], ask: Ask) -> bool
+    ensures { result ≡ unserved stopped.now ask }
 {
-    match ask {
-        Ask::Fetch => false,
-        Ask::Token(_) => false,
-        Ask::Unit(u, _) => !is_running(stopped, u),
-        Ask::Offer => false,
-        Ask::Start(_, _) => false,
-    }
+    matches!(ask, Ask::Unit(u, _) if !is_running(stopped, u))
 }
 
 // A machine has answered: the answer bears the stamp of its request.
-fn answered(yard: Yard, keeps: bool, keeps_answer: bool, stamp: Stamp, service: Service) -> Moves
-    ensures { result ≡ answering yard keeps keeps_answer stamp service }
+fn answered(core: Core, d: Delivery, response: Response) -> Moves
+    ensures { moves_of result ≡ answering core.yard core.sequencer d.keeps d.keeps_answer d.letter.stamp response }
 {
-    let response = service.response;
-    let reply = response.reply;
-    let page = response.page;
-    let layout = response.layout;
-    let letter = Letter {
-        stamp,
-        body: Body::Answers(reply),
-        page,
-        layout,
-    };
-    let outcome = Outcome::blank();
-    let held = service.held;
-    let sequencer = service.sequencer;
-    let mut next = yard;
-    next.held = held;
     Moves {
-        answer: 0,
-        who: 0,
-        outcome,
-        yard: next,
-        sequencer,
-        keeps,
-        posts: keeps_answer,
-        letter,
+        ended: None,
+        core,
+        keeps: d.keeps,
+        posts: d.keeps_answer.then_some(Letter {
+            stamp: d.letter.stamp,
+            body: Body::Answers(response.reply),
+            page: response.page,
+            layout: response.layout,
+        }),
     }
 }
 
 // A request at its machine.
-fn hands(
-    yard: Yard,
-    seq: Sequencer,
-    units: &mut [u8],
-    keeps: bool,
-    keeps_answer: bool,
-    l: Letter,
-    ask: Ask,
-) -> Moves
-    requires units_value { good_units yard.held.shape 1 8 units.old ≡ true }
-    requires body_value { l.body ≡ Body.Asks ask }
-    ensures { (i : ℕ) → i < yard.count → Decided (shape_under yard.held) l (λ ls. delivered (world_of yard seq ls units.old) i keeps keeps_answer l) yard.count i result units.new }
+fn hands(core: Core, units: &mut [u8], d: Delivery, ask: Ask) -> Result<Moves, Refusal>
+    requires units_value { good_units core.yard.held.shape 1 8 units.old ≡ true }
+    requires body_value { d.letter.body ≡ Body.Asks ask }
+    ensures { (i : ℕ) → i < core.yard.count → Decided (shape_under core.yard.held) d.letter (λ ls. delivered (world_of core.yard core.sequencer ls units.old) i d.keeps d.keeps_answer d.letter) core.yard.count i (moves_in core result) units.new }
 {
-    let stamp = l.stamp;
-    let page = l.page;
-    let layout = l.layout;
-    let stopped = yard.stopped;
-    if !is_client(stamp.client) | is_unserved(stopped, ask) {
-        return refused(yard, seq, Answer::NOBODY);
+    if !is_client(d.letter.stamp.client) | is_unserved(&core.yard.stopped, ask) {
+        return Err(Refusal::Nobody);
     }
-    if Yard::LETTERS < count_after(yard.count, keeps, keeps_answer) {
-        return refused(yard, seq, Answer::BAG_FULL);
-    }
-    let service = serve(yard, seq, units, ask, page, layout);
-    answered(yard, keeps, keeps_answer, stamp, service)
+    has_room(core.yard.count, d.keeps, d.keeps_answer)?;
+    let mut after = core;
+    let response = serve(&mut after, units, ask, d.letter.page, d.letter.layout);
+    Ok(answered(after, d, response))
 }
 
 // An answer at its client.
-fn returns_to(yard: Yard, seq: Sequencer, keeps: bool, l: Letter, reply: Reply) -> Moves
-    requires { l.body ≡ Body.Answers reply }
-    ensures { (i : ℕ) (k : Bool) → i < yard.count → Moved (λ ls us. delivered (world_with yard seq ls us) i keeps k l) yard.count i result }
+fn returns_to(core: Core, d: Delivery, reply: Reply) -> Result<Moves, Refusal>
+    requires { d.letter.body ≡ Body.Answers reply }
+    ensures { (i : ℕ) (k : Bool) → i < core.yard.count → Moved (λ ls us. delivered (world_with core.yard core.sequencer ls us) i d.keeps k d.letter) core.yard.count i (moves_in core result) }
 {
-    let stamp = l.stamp;
-    let page = l.page;
-    let layout = l.layout;
-    let c = stamp.client;
-    if !is_client(c) {
-        return refused(yard, seq, Answer::NOBODY);
-    }
-    let client = client_of(yard, c);
+    let letter = d.letter;
+    let c = letter.stamp.client;
+    let client = core.client(c)?;
     let response = Response {
         reply,
-        page,
-        layout,
+        page: letter.page,
+        layout: letter.layout,
     };
-    let turn = take(c, client, stamp, response);
-    let act = turn.act;
-    if Yard::LETTERS < count_after(yard.count, keeps, is_sending(act)) {
-        return refused(yard, seq, Answer::BAG_FULL);
-    }
-    turned(yard, seq, keeps, c, turn)
+    let turn = take(c, client, letter.stamp, response);
+    has_room(core.yard.count, d.keeps, is_sending(turn.act))?;
+    Ok(core.turned(d.keeps, c, &turn))
 }
 
-// Whatever the letter is: `l` is the one at `i`.
-pub(crate) fn delivers(
-    yard: Yard,
-    seq: Sequencer,
-    units: &mut [u8],
-    i: u8,
-    keeps: bool,
-    keeps_answer: bool,
-    l: Letter,
-) -> Moves
-    requires { good_units yard.held.shape 1 8 units.old ≡ true }
-    ensures { Decided (shape_under yard.held) l (λ ls. delivers (world_of yard seq ls units.old) i keeps keeps_answer) yard.count i result units.new }
+// Whatever the letter is: it is the one at `i`.
+pub(crate) fn delivers(core: Core, units: &mut [u8], i: u8, d: Delivery) -> Result<Moves, Refusal>
+    requires { good_units core.yard.held.shape 1 8 units.old ≡ true }
+    ensures { Decided (shape_under core.yard.held) d.letter (λ ls. delivers (world_of core.yard core.sequencer ls units.old) i d.keeps d.keeps_answer) core.yard.count i (moves_in core result) units.new }
 {
-    if yard.count <= i {
-        return refused(yard, seq, Answer::NOBODY);
+    if core.yard.count <= i {
+        return Err(Refusal::Nobody);
     }
-    let body = l.body;
-    match body {
-        Body::Blank => return refused(yard, seq, Answer::NOBODY),
-        Body::Asks(ask) => return hands(yard, seq, units, keeps, keeps_answer, l, ask),
-        Body::Answers(reply) => return returns_to(yard, seq, keeps, l, reply),
+    match d.letter.body {
+        Body::Blank => Err(Refusal::Nobody),
+        Body::Asks(ask) => hands(core, units, d, ask),
+        Body::Answers(reply) => returns_to(core, d, reply),
     }
 }

@@ -1,109 +1,68 @@
 // A request goes to its machine: a unit by its number, fetch and offer to the holder, token and start to the sequencer.
 ghost use Rattle.std.specs.Prelude.{◌≡◌, true, false, []};
-ghost use Rattle.layout.specs.Holder.{fetched_from, offered_to};
-ghost use Rattle.sequencer.specs.Rules.{told, after};
-ghost use Rattle.rule.specs.World.{shape_under};
 ghost use Rattle.rule.specs.Lent.{good_units};
-ghost use Rattle.rule.specs.Serve.{saying, bare, telling, fetching, unserved, serve};
-ghost use Rattle.yard.specs.InsideParts.{world_of, IsServed};
+ghost use Rattle.rule.specs.Serve.{unserved, serve};
+ghost use Rattle.yard.specs.InsideParts.{world_of, response_in, IsServed};
 
-use crate::unit_request::{bare, saying};
+use crate::moves::Core;
+use crate::unit_request::bare;
 use crate::units::at_unit;
 use client::{Ask, Page, Reply, Response};
 use layout::Layout;
-use layout::holder::{Fetched, fetch, offer};
-use rule::Yard;
-use sequencer::{Asked, Sequencer, Told, stepped};
+use layout::holder::{fetch, offer};
+use num::refusal::Refusal;
+use sequencer::{start, token};
 
-// An answer, and the holder's layout and the sequencer afterwards.
-#[derive(Clone, Copy)]
-pub(crate) struct Service {
-    pub response: Response,
-    pub held: Layout,
-    pub sequencer: Sequencer,
-}
-
-fn telling(told: Told) -> Reply
-    ensures { result ≡ telling told }
-{
-    match told {
-        Told::At(p) => Reply::Given(p),
-        Told::Number(n) => saying(n),
-    }
-}
-
-fn asking(held: Layout, seq: Sequencer, asked: Asked) -> Service
-    ensures { result ≡ record { response = bare (telling (told seq asked)); held = held; sequencer = after seq asked } }
-{
-    let step = stepped(seq, asked);
-    let told = step.told;
-    let response = bare(telling(told));
-    let sequencer = step.after;
-    Service {
-        response,
-        held,
-        sequencer,
-    }
-}
-
-fn fetching(fetched: Fetched) -> Response
-    ensures { result ≡ fetching fetched }
-{
-    if fetched.answer != 0 {
-        return bare(Reply::Refused(fetched.answer));
-    }
-    let page = Page::blank();
-    let layout = fetched.layout;
-    Response {
-        reply: Reply::Held,
-        page,
-        layout,
-    }
-}
-
-fn offering(held: Layout, seq: Sequencer, layout: Layout) -> Service
-    ensures { result ≡ record { response = bare (saying (offered_to held layout).answer); held = (offered_to held layout).held; sequencer = seq } }
-{
-    let offered = offer(held, layout);
-    let response = bare(saying(offered.answer));
-    let kept = offered.held;
-    Service {
-        response,
-        held: kept,
-        sequencer: seq,
-    }
-}
-
-// A machine that is neither has answered.
-fn beside(yard: Yard, seq: Sequencer, response: Response) -> Service
-    ensures { result ≡ record { response = response; held = yard.held; sequencer = seq } }
-{
-    let held = yard.held;
-    Service {
-        response,
-        held,
-        sequencer: seq,
-    }
-}
-
-pub(crate) fn serve(
-    yard: Yard,
-    seq: Sequencer,
+// What the machine answers, or why it refuses.
+fn answer(
+    core: &mut Core,
     units: &mut [u8],
     ask: Ask,
     page: Page,
     layout: Layout,
-) -> Service
-    requires units_value { good_units yard.held.shape 1 8 units.old ≡ true }
-    requires ask_value { unserved yard.stopped ask ≡ false }
-    ensures { IsServed (shape_under yard.held) (serve (world_of yard seq [] units.old) ask page layout) result units.new }
+) -> Result<Response, Refusal>
+    requires units_value { good_units core.old.yard.held.shape 1 8 units.old ≡ true }
+    requires ask_value { unserved core.old.yard.stopped ask ≡ false }
+    ensures { IsServed core.old.yard (serve (world_of core.old.yard core.old.sequencer [] units.old) ask page layout) (response_in result) core.new.yard core.new.sequencer units.new }
 {
-    let held = yard.held;
     match ask {
-        Ask::Fetch => return beside(yard, seq, fetching(fetch(held))),
-        Ask::Token(epoch) => return asking(held, seq, Asked::Token(epoch)),
-        Ask::Unit(u, asked) => return beside(yard, seq, at_unit(units, u, asked, page)),
-        Ask::Offer => return offering(held, seq, layout),
-        Ask::Start(epoch, p) => return asking(held, seq, Asked::Start(epoch, p)),
+        Ask::Fetch => {
+            let held = fetch(core.yard.held)?;
+            Ok(Response {
+                layout: held,
+                ..bare(Reply::Held)
+            })
+        }
+        Ask::Token(epoch) => {
+            let position = token(&mut core.sequencer, epoch)?;
+            Ok(bare(Reply::Given(position)))
+        }
+        Ask::Unit(u, asked) => at_unit(units, u, asked, page),
+        Ask::Offer => {
+            offer(&mut core.yard.held, layout)?;
+            Ok(bare(Reply::Fine))
+        }
+        Ask::Start(epoch, p) => {
+            start(&mut core.sequencer, epoch, p)?;
+            Ok(bare(Reply::Fine))
+        }
+    }
+}
+
+// A machine's number travels in its letter.
+pub(crate) fn serve(
+    core: &mut Core,
+    units: &mut [u8],
+    ask: Ask,
+    page: Page,
+    layout: Layout,
+) -> Response
+    requires units_value { good_units core.old.yard.held.shape 1 8 units.old ≡ true }
+    requires ask_value { unserved core.old.yard.stopped ask ≡ false }
+    ensures { IsServed core.old.yard (serve (world_of core.old.yard core.old.sequencer [] units.old) ask page layout) result core.new.yard core.new.sequencer units.new }
+{
+    match answer(core, units, ask, page, layout) {
+        Ok(response) => response,
+        Err(refusal) => bare(Reply::Refused(refusal.number())),
     }
 }

@@ -1,131 +1,77 @@
 // The steps but a delivery: each changes the yard by value.
-ghost use Rattle.std.specs.Prelude.{◌≡◌, true, false, ◌∷◌, ◌++◌, leb};
-ghost use Rattle.num.specs.Checks.{lowest, ◌if◌};
-ghost use Rattle.client.specs.Begin.{ready_checks};
-ghost use Rattle.client.specs.Job.{job_checks};
+ghost use Rattle.std.specs.Prelude.{◌≡◌};
 ghost use Rattle.rule.specs.World.{running};
 ghost use Rattle.rule.specs.Steps.{begins, drops, stops, restarts, gives_up, forgets};
-ghost use Rattle.yard.specs.InsideMoves.{world_with, with_stopped_in, Moved};
+ghost use Rattle.yard.specs.InsideMoves.{moves_of, moves_in, world_with, with_stopped_in, Moved};
 
-use crate::moves::{Moves, client_of, is_client, quiet, refused, turned, with_client};
-use client::Client;
+use crate::moves::{Core, Moves};
 use client::begin::{begin, give_up, ready_answer, restart};
-use client::job::job_answer;
 use client::state::Job;
-use layout::Layout;
-use num::answer::{Answer, pick};
-use num::bytes::size;
+use num::refusal::{Refusal, lowest};
 use rule::Yard;
-use sequencer::{Sequencer, forget_step};
+use sequencer::forget;
 
-// 18, 19, 16, 2, 3 or 10, in this order.
-fn begin_number(client: Client, count: u8, job: Job, shape: u8) -> u8
-    ensures { result ≡ lowest (ready_checks client ++ (16 if leb 32 count ∷ job_checks job shape)) }
+// An operation begins: its client fetches the layout. 18, 19, 16, 2, 3 or 10 where it does not, in this order.
+pub(crate) fn begins(core: Core, c: u8, job: Job) -> Result<Moves, Refusal>
+    ensures { Moved (λ ls us. begins (world_with core.yard core.sequencer ls us) c job) core.yard.count 0 (moves_in core result) }
 {
-    let ready = ready_answer(client);
-    let asked = job_answer(job, shape);
-    pick(
-        ready != 0,
-        ready,
-        pick(Yard::MOST <= count, Answer::BAG_FULL, asked),
-    )
-}
-
-// An operation begins: its client fetches the layout.
-pub(crate) fn begins(yard: Yard, seq: Sequencer, c: u8, job: Job) -> Moves
-    ensures { Moved (λ ls us. begins (world_with yard seq ls us) c job) yard.count 0 result }
-{
-    if !is_client(c) {
-        return refused(yard, seq, Answer::NOBODY);
-    }
-    let client = client_of(yard, c);
-    let shape = yard.held.shape;
-    let number = begin_number(client, yard.count, job, shape);
-    if number != 0 {
-        return refused(yard, seq, number);
-    }
-    let begun = begin(client, job, shape);
-    let turn = begun.turn;
-    turned(yard, seq, true, c, turn)
+    let client = core.client(c)?;
+    ready_answer(client)?;
+    lowest(&[Refusal::BagFull.when(Yard::MOST <= core.yard.count)])?;
+    let turn = begin(client, job, core.yard.held.shape)?;
+    Ok(core.turned(true, c, &turn))
 }
 
 // A letter is dropped.
-pub(crate) fn drops(yard: Yard, seq: Sequencer, i: u8) -> Moves
-    ensures { Moved (λ ls us. drops (world_with yard seq ls us) i) yard.count i result }
+pub(crate) fn drops(core: Core, i: u8) -> Result<Moves, Refusal>
+    ensures { Moved (λ ls us. drops (world_with core.yard core.sequencer ls us) i) core.yard.count i (moves_in core result) }
 {
-    if yard.count <= i {
-        return refused(yard, seq, Answer::NOBODY);
+    if core.yard.count <= i {
+        return Err(Refusal::Nobody);
     }
-    quiet(yard, seq, false, Answer::FINE)
+    Ok(core.quiet(false))
 }
 
 // Is there such a unit, and has it not stopped?
-pub(crate) fn is_running(stopped: [bool; Yard::UNITS], u: u8) -> bool
-    ensures { result ≡ running stopped u }
+pub(crate) fn is_running(stopped: &[bool; Yard::UNITS], u: u8) -> bool
+    ensures { result ≡ running stopped.now u }
 {
-    if u < 1 {
-        return false;
-    }
-    if Layout::LAST_UNIT < u {
-        return false;
-    }
-    let at = size(u) - 1;
-    !stopped[at]
-}
-
-fn with_stopped(yard: Yard, u: u8) -> Yard
-    requires { running yard.stopped u ≡ true }
-    ensures { result ≡ with_stopped_in yard u }
-{
-    let at = size(u) - 1;
-    let mut next = yard;
-    next.stopped[at] = true;
-    next
+    (1 <= u) && usize::from(u) <= Yard::UNITS && !stopped[usize::from(u) - 1]
 }
 
 // A unit stops.
-pub(crate) fn stops(yard: Yard, seq: Sequencer, u: u8) -> Moves
-    ensures { Moved (λ ls us. stops (world_with yard seq ls us) u) yard.count 0 result }
+pub(crate) fn stops(core: Core, u: u8) -> Result<Moves, Refusal>
+    ensures { Moved (λ ls us. stops (world_with core.yard core.sequencer ls us) u) core.yard.count 0 (moves_in core result) }
 {
-    let stopped = yard.stopped;
-    if !is_running(stopped, u) {
-        return refused(yard, seq, Answer::NOBODY);
+    let mut after = core;
+    if !is_running(&core.yard.stopped, u) {
+        return Err(Refusal::Nobody);
     }
-    let next = with_stopped(yard, u);
-    quiet(next, seq, true, Answer::FINE)
+    after.yard.stopped[usize::from(u) - 1] = true;
+    Ok(after.quiet(true))
 }
 
 // A client restarts: its operation is forgotten.
-pub(crate) fn restarts(yard: Yard, seq: Sequencer, c: u8) -> Moves
-    ensures { Moved (λ ls us. restarts (world_with yard seq ls us) c) yard.count 0 result }
+pub(crate) fn restarts(core: Core, c: u8) -> Result<Moves, Refusal>
+    ensures { Moved (λ ls us. restarts (world_with core.yard core.sequencer ls us) c) core.yard.count 0 (moves_in core result) }
 {
-    if !is_client(c) {
-        return refused(yard, seq, Answer::NOBODY);
-    }
-    let restarted = restart(client_of(yard, c));
-    if restarted.answer != 0 {
-        return refused(yard, seq, Answer::NUMBERS_SPENT);
-    }
-    let client = restarted.client;
-    let next = with_client(yard, c, client);
-    quiet(next, seq, true, Answer::FINE)
+    let client = restart(core.client(c)?)?;
+    Ok(core.with_client(c, client).quiet(true))
 }
 
 // A client is told to give up.
-pub(crate) fn gives_up(yard: Yard, seq: Sequencer, c: u8) -> Moves
-    ensures { Moved (λ ls us. gives_up (world_with yard seq ls us) c) yard.count 0 result }
+pub(crate) fn gives_up(core: Core, c: u8) -> Result<Moves, Refusal>
+    ensures { Moved (λ ls us. gives_up (world_with core.yard core.sequencer ls us) c) core.yard.count 0 (moves_in core result) }
 {
-    if !is_client(c) {
-        return refused(yard, seq, Answer::NOBODY);
-    }
-    turned(yard, seq, true, c, give_up(client_of(yard, c)))
+    let turn = give_up(core.client(c)?);
+    Ok(core.turned(true, c, &turn))
 }
 
 // The sequencer forgets.
-pub(crate) fn forgets(yard: Yard, seq: Sequencer) -> Moves
-    ensures { Moved (λ ls us. forgets (world_with yard seq ls us)) yard.count 0 result }
+pub(crate) fn forgets(core: Core) -> Moves
+    ensures { Moved (λ ls us. forgets (world_with core.yard core.sequencer ls us)) core.yard.count 0 (moves_of result) }
 {
-    let forgot = forget_step(seq);
-    let next = forgot.after;
-    quiet(yard, next, true, Answer::FINE)
+    let mut after = core;
+    forget(&mut after.sequencer);
+    after.quiet(true)
 }

@@ -1,10 +1,11 @@
 // A step of the yard: the letter is taken, `decide` settles all by value over the units' bytes, and the table is changed by what it says.
-// It has no branch and no loop.
 ghost use Rattle.std.specs.Prelude.{◌≡◌};
 ghost use Rattle.rule.specs.Lent.{lent_of, IsStep};
+ghost use Rattle.rule.specs.Stepped.{stepped_in};
 
-use crate::bag::{drop_at, put, take};
+use crate::bag::take;
 use crate::decide::{decide, place_of};
+use crate::moves::{Core, count_after};
 use client::state::Job;
 use rule::{Letter, Step, Stepped, Yard};
 use sequencer::Sequencer;
@@ -17,13 +18,31 @@ pub fn step(
     s: Step,
     job: Job,
 ) -> Stepped
-    ensures { IsStep (lent_of yard seq.old table.old units.old) s job result seq.new table.new units.new }
+    ensures { IsStep (lent_of yard seq.old table.old units.old) s job (stepped_in result) seq.new table.new units.new }
 {
-    let i = place_of(s);
-    let l = take(table, i);
-    let d = decide(yard, *seq, table.len(), l, units, s, job);
-    *seq = d.sequencer;
-    drop_at(table, d.count, d.gone);
-    put(table, d.place, d.letter);
-    d.stepped
+    let place = place_of(s);
+    let l = take(table, place);
+    let core = Core {
+        yard,
+        sequencer: *seq,
+    };
+    match decide(core, table.len(), l, units, s, job) {
+        Ok(moves) => {
+            *seq = moves.core.sequencer;
+            moves.apply(table, yard.count, place);
+            Stepped {
+                answer: Ok(()),
+                ended: moves.ended,
+                yard: Yard {
+                    count: count_after(yard.count, moves.keeps, moves.posts.is_some()) as u8,
+                    ..moves.core.yard
+                },
+            }
+        }
+        Err(refusal) => Stepped {
+            answer: Err(refusal),
+            ended: None,
+            yard,
+        },
+    }
 }

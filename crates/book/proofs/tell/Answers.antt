@@ -5,16 +5,11 @@ use lib.Seq.{length-take-le}
 use Rattle.play.proofs.Chunks.{lines_few, bytes_few}
 use Rattle.book.proofs.tell.Goals as goal
 
--- src/main.rt:24:37
 pub slice_bounds-write_all-end-2 : goal.slice_bounds-write_all-end-2
-slice_bounds-write_all-end-2 g c =
-    omega (arith, bytes_few c.show_lines-answer.ensures c.if-answer-ne-FINE.false, c.show_lines-answer.auto.out)
+slice_bounds-write_all-end-2 g c = omega (arith, bytes_few c.in-Ok.ensures, c.show_lines.auto.out)
 
 pub slice_bounds-write_all-end-3 : goal.slice_bounds-write_all-end-3
-slice_bounds-write_all-end-3 g c =
-    sym (length-take-le _ _ (omega (arith, bytes_few c.show_lines-answer.ensures c.if-answer-ne-FINE.false, c.show_lines-answer.auto.out)))
+slice_bounds-write_all-end-3 g c = sym (length-take-le _ _ (omega (arith, bytes_few c.in-Ok.ensures, c.show_lines.auto.out)))
 
--- src/main.rt:13:1
 pub returns-then-is_ok : goal.returns-then-is_ok
-returns-then-is_ok g c =
-    omega (arith, lines_few c.show_lines-answer.ensures c.if-answer-ne-FINE.false)
+returns-then-is_ok g c = omega (arith, lines_few c.in-Ok.ensures)

@@ -1,6 +1,7 @@
+use mathlib.Core.Path.{◌∙◌}
 use Rattle.desk.proofs.Telling.{offer_answered}
 use Rattle.desk.proofs.layout_offer.Goals as goal
 
 pub returns : goal.returns
 returns c =
-    record { answer_is = offer_answered _ _ _ _ _ c.read_layout-old.ensures.layout_is c.read_layout-new.ensures.layout_is c.offer-done.ensures }
+    record { answer_is = c.number_of.ensures ∙ offer_answered _ _ _ _ _ c.layout_in-holds.ensures c.layout_in.ensures c.offer.ensures }

@@ -1,15 +1,16 @@
+use mathlib.Core.Path.{refl, ◌∙◌}
 use Rattle.num.proofs.Telling.{told_new, told_held}
+use Rattle.num.proofs.Refusals.{number_above}
 use Rattle.desk.proofs.Telling.{place_answered, place_found}
 use Rattle.desk.proofs.layout_set.Goals as goal
 
-pub returns-then-answer-eq-FINE : goal.returns-then-answer-eq-FINE
-returns-then-answer-eq-FINE c =
-    let l = c.read_layout-read.ensures.layout_is in
-    let a = place_answered _ _ _ _ l c.set_of-placed.ensures in
-    let z = c.if-answer-eq-FINE.true in
-    record { answer_is = a; set_is = told_new _ a z (place_found _ _ _ _ l c.set_of-placed.ensures z) }
+pub returns-in-Ok : goal.returns-in-Ok
+returns-in-Ok c =
+    let l = c.layout_in.ensures in
+    let a = place_answered _ _ _ _ l c.in-Ok.ensures in
+    record { answer_is = a; set_is = told_new _ a refl (c.from.ensures ∙ place_found _ _ _ _ l c.in-Ok.ensures refl) }
 
-pub returns-else-answer-eq-FINE : goal.returns-else-answer-eq-FINE
-returns-else-answer-eq-FINE c =
-    let a = place_answered _ _ _ _ c.read_layout-read.ensures.layout_is c.set_of-placed.ensures in
-    record { answer_is = a; set_is = told_held _ _ a c.if-answer-eq-FINE.false }
+pub returns-in-Err : goal.returns-in-Err
+returns-in-Err c =
+    let a = place_answered _ _ _ _ c.layout_in.ensures c.in-Err.ensures in
+    record { answer_is = c.number.ensures ∙ a; set_is = told_held _ _ a (number_above c.in-Err.refusal) }

@@ -1,26 +1,24 @@
-use mathlib.Core.Path.{refl, ◌∙◌}
-use native.Mathlib.Omega.{arith}
-use borrow.Author.Rules.{rules}
-use Rattle.marked.specs.Marked.{same_told}
-use Rattle.marked.proofs.Running.{running_none, running_more, running_all, verdict_small}
+use Rattle.std.proofs.Common.{◌≡◌, true, refl, arith, ◌∙◌}
+use Rattle.marked.proofs.Running.{is_row, running_none, running_more, running_all, row_right}
 use Rattle.marked.proofs.run.Goals as goal
+use Rattle.marked.proofs.run.Goals.{then-not-show, else-not-show}
 
 pub loop-k-init : goal.loop-k-init
-loop-k-init g c = (search rules, refl, running_none _ _ refl)
+loop-k-init g c = running_none _ _ refl
 
 pub overflow_add-wrong : goal.overflow_add-wrong
-overflow_add-wrong g c =
-    let v = verdict_small (same_told c.tell-got.result c.row_at-row.result.told) c.show-wrong.ensures in
-    omega (arith, c.loop-k.invariant.2.none_wrong)
+overflow_add-wrong g c = omega (arith, c.loop-k.invariant.none_wrong)
 
 pub loop-k-preserved : goal.loop-k-preserved
 loop-k-preserved g c =
-    let t = c.tell-got in
-    let i = c.loop-k.invariant in
-    (search rules, t.auto.mem ∙ i.1, running_more c.requires (omega arith) i.2 c.row_at-row.ensures t.ensures c.show-wrong.ensures)
-
-pub shape_of-mem : goal.shape_of-mem
-shape_of-mem g c = c.loop-k.invariant.1
+    let e = is_row c.table-rows.result c.loop-k.k _ c.table-rows.ensures c.loop-k-test.true in
+    let s = c.loop-k.invariant in
+    let x = c.tell-got.ensures in
+    elim c.if-not-show.branch [
+      | then-not-show w ↦
+          let right : c.show.result ≡ true = c.show.ensures ∙ row_right c.requires c.loop-k-test.true s e x in cc
+      | else-not-show w ↦ rw w.wrong-is (running_more c.tell-got.result c.loop-k-test.true s e x)
+    ]
 
 pub returns : goal.returns
-returns g c = running_all (omega arith) c.loop-k.invariant.0 c.loop-k.invariant.2
+returns g c = running_all c.loop-k-test.false c.loop-k.invariant

@@ -1,18 +1,19 @@
 use Prim.Native.Nat.{ℕ}
 use lib.ListN.{length-replicate}
-use Rattle.play.proofs.Telling.{ready, told_lines, told_nothing}
+use Rattle.std.proofs.lemmas.Result.{err_from_is_err_and}
+use Rattle.play.proofs.Telling.{is_made, ready, told_run, told_none}
 use Rattle.play.proofs.show_lines.Goals as goal
 
--- src/lib.rt:119:13
-pub run-shown-requires : goal.run-shown-requires
-run-shown-requires c =
-    ready _ c.judge-judged.ensures c.if-answer-eq-FINE.true (length-replicate {A = ℕ} 49344 0) c.fresh_kept-made.ensures
+pub returns-in_err-judged : goal.returns-in_err-judged
+returns-in_err-judged c =
+    let p = err_from_is_err_and c.from_residual.result c.from_residual.ensures.1 in
+    rw (p.1, p.2) (told_none _ c.in_err-judged.ensures)
 
--- src/lib.rt:103:1
-pub returns-then-answer-eq-FINE : goal.returns-then-answer-eq-FINE
-returns-then-answer-eq-FINE c =
-    told_lines _ c.judge-judged.ensures c.if-answer-eq-FINE.true c.run-shown.ensures
+pub unwrap-kept-requires : goal.unwrap-kept-requires
+unwrap-kept-requires c = is_made _ c.in_ok-judged.ensures (length-replicate {A = ℕ} 49344 0) _ c.fresh_kept.ensures
 
--- src/lib.rt:103:1
-pub returns-else-answer-eq-FINE : goal.returns-else-answer-eq-FINE
-returns-else-answer-eq-FINE c = told_nothing _ c.judge-judged.ensures c.if-answer-eq-FINE.false
+pub run-requires : goal.run-requires
+run-requires c = ready _ c.in_ok-judged.ensures (length-replicate {A = ℕ} 49344 0) (rw c.unwrap-kept.ensures at c.fresh_kept.ensures)
+
+pub returns : goal.returns
+returns c = told_run _ c.in_ok-judged.ensures c.run.ensures

@@ -4,4 +4,4 @@ use Rattle.desk.proofs.made.are_bad.Goals as goal
 pub returns : goal.returns
 returns c =
     let a = c.args in
-    all_named a.drops.now a.sets.now _ _ c.drops_are_bad.ensures c.are_sets.ensures
+    rw c.is_empty.ensures (all_named a.drops.now a.sets.now _ _ c.drops_are_bad.ensures c.are_sets.ensures)

@@ -1,25 +1,15 @@
-use native.Mathlib.Omega.{arith}
-use mathlib.Core.Path.{sym, ◌∙◌}
-use Rattle.layout.proofs.Any.{any_more, any_over, any_bad}
+use Rattle.std.proofs.Common.{not, ◌&&◌, ◌||◌, refl, rules}
+use Rattle.std.proofs.Math.Dec.{leb}
+use Rattle.std.proofs.lemmas.List.Recursion.{or_is}
+use Rattle.layout.specs.Lay.{unit_limit}
+use Rattle.layout.specs.Codec.{sets_name}
+use Rattle.layout.specs.Plan.{bad_drops}
 use Rattle.desk.specs.InsideMade.{named_sets}
 use Rattle.desk.proofs.Wishes.{named_in}
 use Rattle.desk.proofs.made.drops_are_bad.Goals as goal
 
-pub bounds-drops-i : goal.bounds-drops-i
-bounds-drops-i c = omega arith
-
-pub overflow_add-i : goal.overflow_add-i
-overflow_add-i c = omega arith
-
-pub loop-i-smaller : goal.loop-i-smaller
-loop-i-smaller c = omega arith
-
-pub loop-i-preserved : goal.loop-i-preserved
-loop-i-preserved c =
-    let a = c.args in
-    any_more (any_bad (named_sets a.sets.now)) a.drops.now c.loop-i.i c.loop-i.bad 0 _ (omega arith) (rw (c.sets_name.ensures, named_in)) ∙ c.loop-i.invariant
-
 pub returns : goal.returns
+unfolding bad_drops
 returns c =
-    let a = c.args in
-    sym (any_over (any_bad (named_sets a.sets.now)) a.drops.now c.loop-i.i c.loop-i.bad (omega arith)) ∙ c.loop-i.invariant
+    let b = c.args.sets.now in
+    or_is (λ us. bad_drops us (named_sets b)) (λ u. not (leb 1 u && leb u unit_limit) || sets_name b u) refl (λ x _. rw (named_in b x)) c.args.drops.now 0 _ (search rules) (search rules)

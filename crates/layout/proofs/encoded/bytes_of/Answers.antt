@@ -1,43 +1,20 @@
-use mathlib.Core.Path.{◌≡◌}
+use Rattle.std.proofs.Common.{◌≡◌, ◌∷◌, [], length, map, take, sym, ◌∙◌}
+use Rattle.std.proofs.lemmas.List.{length-map}
 use Rattle.num.specs.Bytes.{le_bytes}
-use Rattle.layout.specs.Value.{lay_of}
-use Rattle.layout.specs.Codec.{bytes_of, encode}
-use Rattle.layout.specs.InsideGrowing.{nothing}
-use native.Mathlib.Omega.{arith}
-use Rattle.num.proofs.Numbers.{le_length}
-use Rattle.layout.proofs.Grown.{grown_count, grown_both}
+use Rattle.layout.specs.Lay.{units_of}
+use Rattle.layout.specs.Value.{lay_of, units_in, span_in}
+use Rattle.layout.specs.Codec.{counted, sets_bytes, spans_bytes, bytes_of, encode}
+use Rattle.layout.specs.InsideGrowing.{grown}
+use Rattle.layout.proofs.Grown.{grown_append, grown_whole, le_four}
 use Rattle.layout.proofs.encoded.bytes_of.Goals as goal
-
-pub push-shape-requires : goal.push-shape-requires
-push-shape-requires c =
-    let number_count : c.push_number-epoch.result.count ≡ 4 =
-    omega (arith, grown_count _ _ _ c.push_number-epoch.ensures, le_length 4 c.args.l.epoch.0) in
-    omega (arith, number_count)
-
-pub push_units-requires : goal.push_units-requires
-push_units-requires c =
-    let number_count : c.push_number-epoch.result.count ≡ 4 =
-    omega (arith, grown_count _ _ _ c.push_number-epoch.ensures, le_length 4 c.args.l.epoch.0) in
-    omega (arith, grown_count _ _ _ c.push-shape.ensures, number_count)
-
-pub push_sets-requires : goal.push_sets-requires
-push_sets-requires c =
-    let number_count : c.push_number-epoch.result.count ≡ 4 =
-    omega (arith, grown_count _ _ _ c.push_number-epoch.ensures, le_length 4 c.args.l.epoch.0) in
-    omega (arith, grown_count _ _ _ c.push-shape.ensures, number_count)
-
-pub push_ranges-requires : goal.push_ranges-requires
-push_ranges-requires c =
-    let number_count : c.push_number-epoch.result.count ≡ 4 =
-    omega (arith, grown_count _ _ _ c.push_number-epoch.ensures, le_length 4 c.args.l.epoch.0) in
-    omega (arith, grown_count _ _ _ c.push-shape.ensures, number_count)
 
 pub returns : goal.returns
 unfolding bytes_of encode lay_of
 returns c =
-    let number_count : c.push_number-epoch.result.count ≡ 4 =
-    omega (arith, grown_count _ _ _ c.push_number-epoch.ensures, le_length 4 c.args.l.epoch.0) in
-    let shape = grown_both nothing _ _ (le_bytes 4 c.args.l.epoch.0) _ c.push_number-epoch.ensures c.push-shape.ensures in
-    let units = grown_both nothing _ _ _ _ shape c.push_units.ensures.0 in
-    let sets = grown_both nothing _ _ _ _ units c.push_sets.ensures.0 in
-    (grown_both nothing _ _ _ _ sets c.push_ranges.ensures.0, omega (arith, grown_count _ _ _ c.push-shape.ensures, number_count))
+    let l = c.args.l in
+    let sets = map units_in (take l.set_count l.sets) in
+    let spans = map span_in (take l.range_count l.ranges) in
+    let sections : grown (grown (grown (grown (grown [] (le_bytes 4 l.epoch.0)) (l.shape ∷ [])) (counted (units_of sets))) (length sets ∷ sets_bytes sets)) (length spans ∷ spans_bytes spans) ≡ grown [] (bytes_of l)
+    = sym (simp grown_append) in
+    rw (c.push_ranges.ensures, c.push_sets.ensures, c.push_units.ensures, c.push.ensures, c.extend.ensures, c.empty-e.ensures, c.to_le_bytes.ensures, ← le_four l.epoch.0, c.sets.ensures, c.sets-2.ensures, c.ranges-2.ensures, ← length-map (take l.set_count l.sets) units_in, ← length-map (take l.range_count l.ranges) span_in)
+    (sections ∙ grown_whole l c.requires)

@@ -1,7 +1,6 @@
-use mathlib.Core.Path.{ap, ◌∙◌}
-use Rattle.layout.specs.Places.{head_of}
-use Rattle.layout.proofs.HeadAndTail.{head_is}
+use Rattle.layout.proofs.PlaceAnswer.{units_rise}
+use Rattle.layout.proofs.Rising.{from_one}
 use Rattle.layout.proofs.place.head_at.Goals as goal
 
-pub returns : goal.returns
-returns c = c.pick.ensures ∙ head_is c.chain_at-c.result.count c.chain_at-c.result.units ∙ ap head_of c.chain_at-c.ensures
+pub returns-clause-from_one : goal.returns-clause-from_one
+returns-clause-from_one c = rw (c.copied.ensures, c.first.ensures.value, c.units_at.ensures) (from_one 0 _ _ (units_rise _ _))

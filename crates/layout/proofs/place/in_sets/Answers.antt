@@ -1,31 +1,9 @@
-use mathlib.Core.Path.{◌≡◌, sym, ◌∙◌}
-use native.Mathlib.Omega.{arith}
-use lib.ListN.{length}
-use Rattle.layout.specs.Value.{units_in}
-use Rattle.layout.proofs.Take.{past_sets}
-use Rattle.layout.proofs.Any.{any_front, any_front_over, any_set}
+use Rattle.std.proofs.Common.{map, refl, rules}
+use Rattle.std.proofs.lemmas.List.Recursion.{or_is}
+use Rattle.layout.specs.Lay.{◌in?◌, in_sets}
+use Rattle.layout.specs.Value.{units_in, no_chain}
 use Rattle.layout.proofs.place.in_sets.Goals as goal
 
-pub offset_bounds-sets-i : goal.offset_bounds-sets-i
-offset_bounds-sets-i c = omega arith
-
-pub bounds-sets-i : goal.bounds-sets-i
-bounds-sets-i c = omega arith
-
-pub overflow_add-i : goal.overflow_add-i
-overflow_add-i c = omega arith
-
-pub loop-i-smaller : goal.loop-i-smaller
-loop-i-smaller c = omega arith
-
-pub loop-i-preserved : goal.loop-i-preserved
-loop-i-preserved c =
-    let room : length c.args.sets ≡ 16 =
-    c.well_formed.0.1.0.1 in
-    any_front (any_set c.args.u) units_in c.args.count 16 c.args.sets room c.loop-i.i c.loop-i.found past_sets c.holds-found.result (omega arith) c.holds-found.ensures ∙ c.loop-i.invariant
-
 pub returns : goal.returns
-returns c =
-    let room : length c.args.sets ≡ 16 =
-    c.well_formed.0.1.0.1 in
-    sym (any_front_over (any_set c.args.u) units_in c.args.count 16 c.args.sets room c.loop-i.i c.loop-i.found (omega arith)) ∙ c.loop-i.invariant
+unfolding in_sets
+returns c = or_is (λ cs. in_sets c.args.u (map units_in cs)) (λ d. c.args.u in? units_in d) refl (λ _ _. refl) c.args.sets.now no_chain _ (search rules) (search rules)

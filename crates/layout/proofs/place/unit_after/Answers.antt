@@ -1,25 +1,11 @@
-use native.Mathlib.Omega.{arith}
-use mathlib.Core.Path.{◌≡◌, sym, ap, ◌∙◌}
-use lib.ListN.{length}
-use lib.Seq.{length-take-le}
-use Rattle.layout.specs.Places.{after}
-use Rattle.layout.proofs.Take.{clipped}
+use Rattle.std.proofs.Common.{sym, ◌∙◌}
+use Rattle.layout.proofs.PlaceAnswer.{units_rise}
+use Rattle.layout.proofs.Rising.{from_one}
+use Rattle.layout.proofs.NextUnit.{after_absent}
 use Rattle.layout.proofs.place.unit_after.Goals as goal
 
-pub slice_bounds-units-end : goal.slice_bounds-units-end
-slice_bounds-units-end c =
-    let four : length c.chain_at-c.result.units ≡ 4 =
-    omega arith in
-    omega (arith, four)
+pub returns-in_err-at-clause-unit : goal.returns-in_err-at-clause-unit
+returns-in_err-at-clause-unit c = rw (c.from_residual.ensures, ← c.units_at-units.ensures) (after_absent _ _ (sym c.place_among.ensures ∙ c.in_err-at.was))
 
-pub slice_bounds-next_of-end : goal.slice_bounds-next_of-end
-slice_bounds-next_of-end c =
-    let four : length c.chain_at-c.result.units ≡ 4 =
-    omega arith in
-    sym (length-take-le _ _ (omega (arith, four)))
-
-pub returns : goal.returns
-returns c =
-    let four : length c.chain_at-c.result.units ≡ 4 =
-    omega arith in
-    c.next_of.ensures ∙ ap (after _) (clipped c.chain_at-c.result _ four c.clip-n.ensures ∙ c.chain_at-c.ensures)
+pub returns-clause-from_one : goal.returns-clause-from_one
+returns-clause-from_one c = rw (c.unit_at.ensures, c.units_at-units.ensures) (from_one 0 _ _ (units_rise _ _))

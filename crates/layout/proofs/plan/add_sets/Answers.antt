@@ -1,44 +1,14 @@
-use native.Mathlib.Omega.{arith}
-use native.Mathlib.Nat.{add-zero}
-use mathlib.Core.Path.{◌≡◌, sym}
-use lib.ListN.{length, length-take}
-use lib.Seq.{get_or-take}
-use Rattle.layout.proofs.Take.{past_sets}
-use Rattle.layout.proofs.Stored.{stored_more, stored_all}
+use Prim.Native.Nat.{◌+◌, ◌-◌, ◌≤◌}
+use Rattle.std.proofs.Common.{◌≡◌, length, take, drop, sym, ◌∙◌, arith, length-take, append_assoc}
+use Rattle.std.proofs.lemmas.List.Edits.{sets-eq}
+use Rattle.std.proofs.lemmas.List.{drop-drop}
 use Rattle.layout.proofs.plan.add_sets.Goals as goal
-
-pub loop-i-init : goal.loop-i-init
-loop-i-init c = record { rest = rw add-zero }
-
-pub offset_bounds-wish-i : goal.offset_bounds-wish-i
-offset_bounds-wish-i c = omega arith
-
-pub bounds-wish-i : goal.bounds-wish-i
-bounds-wish-i c = omega arith
-
-pub overflow_add-out : goal.overflow_add-out
-overflow_add-out c = omega arith
-
-pub offset_bounds-out-at : goal.offset_bounds-out-at
-offset_bounds-out-at c = omega arith
-
-pub bounds-out-at : goal.bounds-out-at
-bounds-out-at c = omega arith
-
-pub overflow_add-i : goal.overflow_add-i
-overflow_add-i c = omega arith
-
-pub loop-i-smaller : goal.loop-i-smaller
-loop-i-smaller c = omega arith
-
-pub loop-i-preserved : goal.loop-i-preserved
-loop-i-preserved c =
-    let room : length c.args.wish.sets ≡ 16 =
-    (omega arith) in
-    let w = c.args.wish in
-    stored_more c.loop-i.invariant _ past_sets _ (rw (length-take w.count w.sets, room) (omega arith)) (sym (get_or-take w.count w.sets c.loop-i.i past_sets (omega arith))) (omega arith)
 
 pub returns : goal.returns
 returns c =
-    let w = c.args.wish in
-    stored_all c.loop-i.invariant (rw (length-take w.count w.sets) (omega arith))
+    let a = c.args in
+    let new = take a.wish.count a.wish.sets in
+    let room : length a.old ≡ 16 = omega arith in
+    let width : a.at + length new - a.at ≡ length new = omega arith in
+    let fits : a.at + length new ≤ length a.old = omega (arith, room, length-take a.wish.count a.wish.sets) in
+    rw (c.copy_from_slice.ensures.after, c.sets-new.ensures, width, drop-drop) (sym (sets-eq new a.old a.at fits ∙ append_assoc (take a.at a.old) new (drop (a.at + length new) a.old)))

@@ -1,24 +1,10 @@
-use native.Mathlib.Omega.{arith}
-use mathlib.Core.Path.{sym, ◌∙◌}
-use Rattle.layout.specs.Plan.{new_of}
-use Rattle.layout.proofs.Any.{any_more, any_over, any_bad}
+use Rattle.std.proofs.Common.{not, ◌&&◌, ◌||◌, refl, rules}
+use Rattle.std.proofs.Math.Dec.{leb}
+use Rattle.std.proofs.lemmas.List.Recursion.{or_is}
+use Rattle.layout.specs.Lay.{in_sets, unit_limit}
+use Rattle.layout.specs.Plan.{bad_drops, new_of}
 use Rattle.layout.proofs.plan.bad_drops.Goals as goal
 
-pub bounds-drops-i : goal.bounds-drops-i
-bounds-drops-i c = omega arith
-
-pub overflow_add-i : goal.overflow_add-i
-overflow_add-i c = omega arith
-
-pub loop-i-smaller : goal.loop-i-smaller
-loop-i-smaller c = omega arith
-
-pub loop-i-preserved : goal.loop-i-preserved
-loop-i-preserved c =
-    let a = c.args in
-    any_more (any_bad (new_of a.wish)) a.drops.now c.loop-i.i c.loop-i.bad 0 _ (omega arith) (rw c.in_sets.ensures) ∙ c.loop-i.invariant
-
 pub returns : goal.returns
-returns c =
-    let a = c.args in
-    sym (any_over (any_bad (new_of a.wish)) a.drops.now c.loop-i.i c.loop-i.bad (omega arith)) ∙ c.loop-i.invariant
+unfolding bad_drops
+returns c = or_is (λ us. bad_drops us (new_of c.args.wish)) (λ u. not (leb 1 u && leb u unit_limit) || in_sets u (new_of c.args.wish)) refl (λ _ _. refl) c.args.drops.now 0 _ (search rules) (search rules)

@@ -1,6 +1,6 @@
-use Prim.Native.Nat.{◌+◌}
-use mathlib.Core.Path.{refl, ◌∙◌}
+use Rattle.std.proofs.Common.{◌≡◌, drop}
 use Rattle.num.proofs.Numbers.{number_below}
+use Rattle.layout.specs.Codec.{past_units}
 use Rattle.layout.proofs.Decode.{parsed_is}
 use Rattle.layout.proofs.read.parsed.Goals as goal
 
@@ -9,9 +9,7 @@ overflow_cast-epoch c = record { fits = rw c.number_at-epoch.ensures (number_bel
 
 pub returns : goal.returns
 returns c =
-    let n = c.size.ensures.0 in
-    parsed_is c.args.b.now c.number_at-epoch.result c.byte_at-shape.result c.size-at.result c.byte_at-count.result (6 + c.size-at.result)
-    c.sets_from-s.result.sets c.sets_from-s.result.past c.byte_at-uses.result c.ranges_from-t.result.ranges
-    c.number_at-epoch.ensures c.byte_at-shape.ensures (c.size-at.ensures.0 ∙ c.byte_at.ensures) refl c.byte_at-count.ensures
-    (rw n at c.sets_from-s.ensures.0) (rw n at c.sets_from-s.ensures.1.0) c.byte_at-uses.ensures
-    (rw c.size-2.ensures.0 at c.ranges_from-t.ensures)
+    let units : c.behind-past_units.result.now ≡ past_units c.args.b.now = rw (← c.byte_at.ensures, ← c.size.ensures.0) c.behind-past_units.ensures in
+    let sets : c.behind.result.now ≡ drop 1 (past_units c.args.b.now) = rw units at c.behind.ensures in
+    parsed_is c.args.b.now _ _ _ _ _ _ _ c.number_at-epoch.ensures c.byte_at-2.ensures (rw units at c.byte_at-set_count.ensures)
+    (rw sets at c.sets_from.ensures.sets) (rw sets at c.sets_from.ensures.rest) c.byte_at-range_count.ensures (rw c.behind-2.ensures at c.ranges_from.ensures)

@@ -1,13 +1,7 @@
-use Prim.Native.Nat.{◌-◌}
-use mathlib.Core.Bool.{◌&&◌}
-use mathlib.Core.Path.{◌≡◌}
-use lib.ListN.{drop}
-use Rattle.layout.specs.Value.{lay_of}
+use Rattle.std.proofs.Common.{◌≡◌, map, drop}
+use Rattle.layout.specs.Value.{units_in}
 use Rattle.layout.specs.Successor.{keeps_sets}
 use Rattle.layout.proofs.successor.keeps_sets.Given as goal
 
-abbrev pub invariant-loop-i : goal.invariant-loop-i
-invariant-loop-i l = (l.ok && keeps_sets (drop l.i (lay_of l.old).sets) (drop l.i (lay_of l.new).sets)) ≡ keeps_sets (lay_of l.old).sets (lay_of l.new).sets
-
-abbrev pub decreases-loop-i : goal.decreases-loop-i
-decreases-loop-i l = l.a - l.i
+abbrev pub invariant-loop-o : goal.invariant-loop-o
+invariant-loop-o l = keeps_sets (map units_in (drop l.o-index l.old)) (map units_in l.rest) ≡ keeps_sets (map units_in l.old) (map units_in l.new)

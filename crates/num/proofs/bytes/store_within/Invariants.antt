@@ -1,4 +1,4 @@
-use Prim.Native.Nat.{◌+◌, ◌-◌, ◌≤◌}
+use Prim.Native.Nat.{◌+◌, ◌-◌}
 use lib.ListN.{length}
 use lib.Seq.{sets}
 use Rattle.num.specs.Bytes.{le_bytes}
@@ -6,7 +6,4 @@ use Rattle.num.proofs.Storing.{Storing}
 use Rattle.num.proofs.bytes.store_within.Given as goal
 
 abbrev pub invariant-loop-i : goal.invariant-loop-i
-invariant-loop-i l = (l.i ≤ l.width) × Storing (sets l.initial.bytes l.at (le_bytes l.width l.n)) (length l.initial.bytes) l.bytes (l.at + l.i) (le_bytes (l.width - l.i) l.rest)
-
-abbrev pub decreases-loop-i : goal.decreases-loop-i
-decreases-loop-i l = l.width - l.i
+invariant-loop-i l = Storing (sets l.initial.bytes l.at (le_bytes l.width l.n)) (length l.initial.bytes) l.bytes (l.at + l.i) (le_bytes (l.width - l.i) l.rest)

@@ -1,4 +1,3 @@
-use Prim.Native.Nat.{◌-◌}
 use lib.ListN.{length, drop}
 use Rattle.layout.specs.Value.{padded}
 use Rattle.layout.specs.Codec.{set_front}
@@ -7,6 +6,3 @@ use Rattle.script.proofs.step.copy_counted.Given as goal
 
 abbrev pub invariant-loop-i : goal.invariant-loop-i
 invariant-loop-i l = Copying (length l.initial.out) (padded (length l.initial.out) 0 (set_front (drop 2 l.b))) l.initial.out l.i l.out
-
-abbrev pub decreases-loop-i : goal.decreases-loop-i
-decreases-loop-i l = length l.initial.out - l.i

@@ -41,4 +41,4 @@ returns-in-12 c = (rw c.of.ensures at c.sized.ensures) ∙ got_forget c.args.b.n
 
 pub returns-in_default : goal.returns-in_default
 returns-in_default c =
-    c.nothing.ensures ∙ got_other c.args.b.now c.byte_at-tag.result c.byte_at-tag.ensures (omega arith) (omega arith) (omega arith) (omega arith) (omega arith) (omega arith) (omega arith) (omega arith) (omega arith) (omega arith) (omega arith) (omega arith)
+    got_other c.args.b.now c.byte_at-tag.result c.byte_at-tag.ensures (omega arith) (omega arith) (omega arith) (omega arith) (omega arith) (omega arith) (omega arith) (omega arith) (omega arith) (omega arith) (omega arith) (omega arith)

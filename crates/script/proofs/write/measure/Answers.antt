@@ -1,17 +1,28 @@
 use native.Mathlib.Omega.{arith}
-use mathlib.Core.Path.{◌≡◌}
-use lib.ListN.{length}
-use Rattle.script.proofs.Putting.{measure_none, measure_more, measure_all}
+use mathlib.Core.Path.{◌≡◌, ap}
+use mathlib.Core.List.{[]}
+use lib.ListN.{length, get_or, length-take}
+use Rattle.layout.specs.declared.Chain.{Chain}
+use Rattle.script.proofs.Putting.{measure_none, measure_more, measure_stop, measure_all}
 use Rattle.script.proofs.write.measure.Goals as goal
 
-pub loop-i-init : goal.loop-i-init
-loop-i-init c = measure_none _ _
+pub loop-c-init : goal.loop-c-init
+loop-c-init c = measure_none _
 
-pub loop-i-preserved : goal.loop-i-preserved
-loop-i-preserved c =
+pub overflow_add-size-in-loop-c : goal.overflow_add-size-in-loop-c
+overflow_add-size-in-loop-c c =
+    let d : Chain = get_or c.sets-c-items.result.now c.loop-c.c-index (record { count = 0; units = [] }) in
     let room : length c.args.wish.sets ≡ 16 = omega arith in
-    measure_more c.loop-i.invariant c.size-n.ensures.0 _ c.units_in.result (omega arith) (omega arith) c.units_in.ensures.0 c.units_in.ensures.1
+    omega (arith, ap length c.units.ensures, length-take d.count d.units, c.loop-c.invariant.far, ap length c.sets-c-items.ensures, length-take c.args.wish.count c.args.wish.sets)
+
+pub loop-c-preserved : goal.loop-c-preserved
+loop-c-preserved c = measure_more c.loop-c.invariant _ c.loop-c-test.true _ c.if-c-gt-MOST.false (ap length c.units.ensures)
+
+pub returns-then-c-gt-MOST : goal.returns-then-c-gt-MOST
+returns-then-c-gt-MOST c = rw c.sets-c-items.ensures at (measure_stop c.loop-c.invariant _ c.loop-c-test.true c.if-c-gt-MOST.true)
 
 pub returns : goal.returns
 returns c =
-    measure_all c.loop-i.invariant c.size-n.ensures.0 (omega arith) (omega arith)
+    let room : length c.args.wish.sets ≡ 16 = omega arith in
+    let all = rw c.sets-c-items.ensures at (measure_all c.loop-c.invariant c.loop-c-test.false) in
+    (all.0, (all.1, omega (arith, c.loop-c.invariant.far, ap length c.sets-c-items.ensures, length-take c.args.wish.count c.args.wish.sets)))

@@ -1,29 +1,29 @@
 use native.Mathlib.Omega.{arith}
-use mathlib.Core.Path.{◌≡◌}
-use lib.ListN.{length, length-set}
-use Rattle.script.proofs.Putting.{lay_none, lay_fits, lay_more, lay_all, sets_put}
+use mathlib.Core.Path.{◌≡◌, ap}
+use mathlib.Core.List.{[]}
+use Rattle.layout.specs.declared.Chain.{Chain}
+use lib.ListN.{length, get_or, length-set, length-take}
+use Rattle.script.proofs.Putting.{lay_none, lay_fits, lay_more, lay_all, small_at, sets_put}
 use Rattle.script.proofs.write.put_sets.Goals as goal
 
-pub loop-i-init : goal.loop-i-init
-loop-i-init c = lay_none _ _ _ _ (simp length-set (omega arith))
+abbrev no_chain : Chain
+no_chain = record { count = 0; units = [] }
 
-pub put_set-past-requires : goal.put_set-past-requires
-put_set-past-requires c =
-    let room : length c.args.wish.sets ≡ 16 = omega arith in
-    lay_fits c.loop-i.invariant c.size-n.ensures.0 _ (omega arith) (omega (arith, room))
+pub loop-c-init : goal.loop-c-init
+loop-c-init c = lay_none _ _ _ (rw (c.sets-c-items.ensures, length-set) (omega (arith, c.requires.1.1)))
 
-pub loop-i-preserved : goal.loop-i-preserved
-loop-i-preserved c =
-    let room : length c.args.wish.sets ≡ 16 = omega arith in
-    lay_more c.loop-i.invariant c.size-n.ensures.0 _ c.put_set-past.result c.put_set-past.new.out (omega arith) (omega (arith, room)) c.put_set-past.ensures.0 c.put_set-past.ensures.1
+pub put_counted-requires : goal.put_counted-requires
+put_counted-requires c =
+    let us = ap length c.units-units.ensures in
+    let small = small_at _ c.loop-c.c-index no_chain (rw (← c.sets-c-items.ensures) at c.requires.1.0) c.loop-c-test.true in
+    let d : Chain = get_or c.sets-c-items.result.now c.loop-c.c-index no_chain in
+    (omega (arith, us, lay_fits c.loop-c.invariant no_chain c.loop-c-test.true), omega (arith, us, small, length-take d.count d.units))
 
-pub overflow_add-past-in-loop-i : goal.overflow_add-past-in-loop-i
-overflow_add-past-in-loop-i c =
-    let room : length c.args.wish.sets ≡ 16 = omega arith in
-    let again = lay_more c.loop-i.invariant c.size-n.ensures.0 _ c.put_set-past.result c.put_set-past.new.out (omega arith) (omega (arith, room)) c.put_set-past.ensures.0 c.put_set-past.ensures.1 in
-    omega (arith, again.room, length-set c.args.out.now c.args.at c.args.wish.count, c.well_formed.0)
+pub loop-c-preserved : goal.loop-c-preserved
+loop-c-preserved c =
+    lay_more c.loop-c.invariant no_chain _ _ c.loop-c-test.true (rw c.units-units.ensures) (rw c.units-units.ensures at c.put_counted.ensures)
 
 pub returns : goal.returns
 returns c =
     let room : length c.args.wish.sets ≡ 16 = omega arith in
-    sets_put c.args.wish c.args.out.now c.loop-i.out c.args.at c.requires.0 room (lay_all c.loop-i.invariant c.size-n.ensures.0 (omega arith))
+    sets_put c.args.wish c.args.out.now c.loop-c.out c.args.at c.requires.0 room (rw c.sets-c-items.ensures at (lay_all c.loop-c.invariant c.loop-c-test.false))

@@ -1,56 +1,49 @@
 use native.Mathlib.Omega.{arith}
-use Prim.Native.Nat.{◌+◌, ◌≤◌}
-use mathlib.Core.Bool.{true}
-use mathlib.Core.Path.{◌≡◌, sym, ◌∙◌}
-use lib.Dec.{leb}
-use lib.ListN.{length, take}
-use borrow.Author.Tests.{leb-true}
-use Rattle.layout.specs.Codec.{bytes_of}
-use Rattle.script.proofs.Putting.{put_unwanted, put_short, put_whole}
-use Rattle.script.proofs.Starting.{start_few, part_long, start_refused, start_taken, start_count, start_part, start_size, number_put, start_put}
+use mathlib.Core.Path.{◌≡◌, sym}
+use lib.ListN.{length, take, length-take, length-drop}
+use lib.Seq.{length-take-le}
+use Rattle.script.proofs.Putting.{put_unwanted, put_short, put_whole, mid_sets}
+use Rattle.script.proofs.Starting.{start_other, start_refused, start_taken, start_count, start_few, part_long, start_part, start_size, number_put, start_put}
 use Rattle.script.proofs.write.put_start.Goals as goal
 
-pub returns-then-w-layout : goal.returns-then-w-layout
-returns-then-w-layout c = put_unwanted _ _ _ _ (start_refused _ _ _ _ c.write_layout-w.ensures c.if-w-layout.true)
+pub returns-then-layout-ne1 : goal.returns-then-layout-ne1
+returns-then-layout-ne1 c = put_unwanted _ _ _ _ (start_other c.args.layout c.if-layout-ne1.true)
+
+pub returns-in_default : goal.returns-in_default
+returns-in_default c = put_unwanted _ _ _ _ (start_refused c.args.layout c.in_default.field-0 c.in_default.ensures)
 
 pub overflow_add-n : goal.overflow_add-n
-overflow_add-n c =
-    let few : c.write_layout-w.result.count ≤ 168 =
-    start_few _ _ _ _ c.write_layout-w.ensures in
-    omega (arith, few)
+overflow_add-n c = omega (arith, start_few c.args.layout c.in-Ok.ensures)
 
-pub returns-then-not-has_room : goal.returns-then-not-has_room
-returns-then-not-has_room c =
-    let count_is : c.write_layout-w.result.count ≡ length (bytes_of c.args.layout) =
-    start_count _ _ _ _ c.write_layout-w.ensures c.if-w-layout.false in
-    put_short _ _ _ _ _ (start_size c.args.layout c.write_layout-w.result.count c.args.count count_is) (sym c.has_room.ensures ∙ c.if-not-has_room.true)
+pub returns-in_err-room : goal.returns-in_err-room
+returns-in_err-room c =
+    rw c.from_residual.ensures (put_short _ _ _ _ _ (start_size c.args.layout c.in-Ok.n c.args.count (start_count c.args.layout c.in-Ok.ensures)) c.in_err-room.ensures)
 
-pub put_bytes-requires : goal.put_bytes-requires
-put_bytes-requires c =
-    let few : c.write_layout-w.result.count ≤ 168 =
-    start_few _ _ _ _ c.write_layout-w.ensures in
-    let room : leb (0 + (6 + c.write_layout-w.result.count)) (length c.args.out.now) ≡ true =
-    sym c.has_room.ensures ∙ c.if-not-has_room.false in
-    let fits : 0 + (6 + c.write_layout-w.result.count) ≤ length c.args.out.now =
-    leb-true (0 + (6 + c.write_layout-w.result.count)) (length c.args.out.now) room in
-    let w = c.write_layout-w in
-    let o = c.put_number in
-    let long = (number_put 2 0 c.write_layout-w.result.count c.args.out.now o.new.bytes (omega (arith, fits)) o.ensures).1 in
-    omega (arith, fits, long, few, part_long _ _ _ _ c.write_layout-w.ensures)
+pub slice_bounds-part-end : goal.slice_bounds-part-end
+slice_bounds-part-end c = omega (arith, start_few c.args.layout c.in-Ok.ensures, part_long c.args.layout c.in-Ok.ensures)
+
+pub slice_bounds-copy_from_slice-end-2 : goal.slice_bounds-copy_from_slice-end-2
+slice_bounds-copy_from_slice-end-2 c =
+    sym (length-take-le c.in-Ok.n c.write_layout.new.out (omega (arith, start_few c.args.layout c.in-Ok.ensures, part_long c.args.layout c.in-Ok.ensures)))
+
+pub copy_from_slice-requires : goal.copy_from_slice-requires
+copy_from_slice-requires c =
+    let w = c.in-Ok.ensures in
+    let few = start_few c.args.layout w in
+    let long = (number_put 2 0 c.in-Ok.n c.args.out.now c.put_number.new.bytes (omega (arith, c.in_ok-room.ensures.0)) c.put_number.ensures).1 in
+    rw (length-take, length-drop, length-take) (omega (arith, few, long, part_long c.args.layout w, c.in_ok-room.ensures.0))
 
 pub returns : goal.returns
 returns c =
-    let count_is : c.write_layout-w.result.count ≡ length (bytes_of c.args.layout) =
-    start_count _ _ _ _ c.write_layout-w.ensures c.if-w-layout.false in
-    let part_is : take c.write_layout-w.result.count c.write_layout-w.new.out ≡ bytes_of c.args.layout =
-    start_part _ _ _ _ c.write_layout-w.ensures c.if-w-layout.false in
-    let room : leb (0 + (6 + c.write_layout-w.result.count)) (length c.args.out.now) ≡ true =
-    sym c.has_room.ensures ∙ c.if-not-has_room.false in
-    let fits : 0 + (6 + c.write_layout-w.result.count) ≤ length c.args.out.now =
-    leb-true (0 + (6 + c.write_layout-w.result.count)) (length c.args.out.now) room in
-    let o₁ = c.put_number in
-    let o₂ = c.put_bytes in
-    let o₃ = c.put_number-2 in
-    let w = c.write_layout-w in
-    let put = start_put c.args.layout w.result.count c.args.count c.args.out.now o₁.new.bytes o₂.new.out o₃.new.bytes w.new.out count_is part_is fits o₁.ensures o₂.ensures o₃.ensures in
-    put_whole _ _ _ _ _ _ (start_taken _ _ _ _ w.ensures c.if-w-layout.false) (start_size c.args.layout w.result.count c.args.count count_is) room put
+    let l = c.args.layout in
+    let n = c.in-Ok.n in
+    let w = c.in-Ok.ensures in
+    let out = c.args.out.now in
+    let first = c.put_number.new.bytes in
+    let part = c.write_layout.new.out in
+    let fits = c.in_ok-room.ensures.0 in
+    let long = (number_put 2 0 n out first (omega (arith, fits)) c.put_number.ensures).1 in
+    let len : length (take n part) ≡ n = length-take-le n part (omega (arith, start_few l w, part_long l w)) in
+    let put = mid_sets first 2 _ (take n part) c.copy_from_slice.new.self c.copy_from_slice.ensures.after (omega (arith, len)) (omega (arith, len, long, fits)) in
+    put_whole _ _ _ _ _ _ (start_taken l w c.if-layout-ne1.false) (start_size l n c.args.count (start_count l w)) fits
+    (start_put l n c.args.count out first _ _ part (start_count l w) (start_part l w) fits c.put_number.ensures put (rw c.from.ensures at c.put_number-2.ensures))

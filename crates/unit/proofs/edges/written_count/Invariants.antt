@@ -1,8 +1,5 @@
 use Rattle.unit.proofs.Sealing.{Passed}
 use Rattle.unit.proofs.edges.written_count.Given as goal
 
-abbrev pub invariant-loop-left : goal.invariant-loop-left
-invariant-loop-left l = Passed l.sh l.mem l.left
-
-abbrev pub decreases-loop-left : goal.decreases-loop-left
-decreases-loop-left l = l.left
+abbrev pub invariant-loop-i : goal.invariant-loop-i
+invariant-loop-i l = Passed l.sh l.mem l.i

@@ -4,5 +4,5 @@ use Rattle.unit.proofs.memory.good_header.Goals as goal
 
 pub returns : goal.returns
 returns c =
-    header_words _ _ _ _ _ _ _ refl refl c.pair_at.ensures.0 c.word_at.ensures c.word_at-2.ensures
+    header_words _ _ _ _ _ _ _ refl refl c.pair_at.ensures c.word_at.ensures c.word_at-2.ensures
     c.requires.1

@@ -28,10 +28,10 @@ good_slots-requires c =
     let m = c.args.mem.now in
     let h = header_good c.shape_of-sh.result m (sym c.good_header.ensures ∙ c.if-not-good_header.false) in
     let z = fitting in
-    (slots_within c.shape_of-sh.result m (whole _ c.shape_of-sh.ensures c.if-mem-ne-SIZE.false) _ (rw c.number_at.ensures h.count), rw c.number_at-2.ensures h.floor, z.four, z.page, z.lines)
+    (slots_within c.shape_of-sh.result m (whole _ c.shape_of-sh.ensures c.if-mem-ne-SIZE.false) _ (rw c.pair_at.ensures h.count), rw c.word_at.ensures h.floor, z.four, z.page, z.lines)
 
 pub returns : goal.returns
 returns c =
     rw (← c.shape_of-sh.ensures)
     (good_slots_lem _ _ _ _ _ _ (whole _ c.shape_of-sh.ensures c.if-mem-ne-SIZE.false) c.good_header.ensures c.if-not-good_header.false
-    c.number_at.ensures c.number_at-2.ensures c.good_slots.ensures)
+    c.pair_at.ensures c.word_at.ensures c.good_slots.ensures)

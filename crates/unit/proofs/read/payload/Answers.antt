@@ -3,25 +3,32 @@ use Rattle.unit.specs.Shape.{shape_of}
 use Rattle.unit.proofs.Payload.{shown}
 use Rattle.unit.proofs.read.payload.Goals as goal
 
-pub overflow_add-end : goal.overflow_add-end
-overflow_add-end c =
-    let within : c.read-seen.result.start + c.read-seen.result.length ≤ length c.args.mem.now =
-    let r = c.read-seen.ensures in
-    rw (r.start_is, r.length_is) (shown (shape_of c.args.mem.now) c.args.mem.now c.args.epoch c.args.p).within in
+pub returns-in-Err : goal.returns-in-Err
+returns-in-Err c =
+    let a = c.args in
+    let r = c.in-Err.ensures in
+    let s = shown (shape_of a.mem.now) a.mem.now a.epoch a.p in
+    record { part_is = rw (← r.length_is); payload_is = rw (← r.length_is) at s.part }
+
+pub overflow_add-result : goal.overflow_add-result
+overflow_add-result c =
+    let a = c.args in
+    let r = c.in-Ok.ensures in
+    let within : c.in-Ok.seen.start + c.in-Ok.seen.length ≤ length a.mem.now = rw (r.start_is, r.length_is) (shown (shape_of a.mem.now) a.mem.now a.epoch a.p).within in
     omega (arith, within)
 
 pub slice_bounds-result-end : goal.slice_bounds-result-end
 slice_bounds-result-end c =
-    let within : c.read-seen.result.start + c.read-seen.result.length ≤ length c.args.mem.now =
-    let r = c.read-seen.ensures in
-    rw (r.start_is, r.length_is) (shown (shape_of c.args.mem.now) c.args.mem.now c.args.epoch c.args.p).within in
+    let a = c.args in
+    let r = c.in-Ok.ensures in
+    let within : c.in-Ok.seen.start + c.in-Ok.seen.length ≤ length a.mem.now = rw (r.start_is, r.length_is) (shown (shape_of a.mem.now) a.mem.now a.epoch a.p).within in
     omega (arith, within)
 
-pub returns : goal.returns
-returns c =
+pub returns-in-Ok : goal.returns-in-Ok
+returns-in-Ok c =
     let a = c.args in
-    let r = c.read-seen.ensures in
-    let e : c.read-seen.result.start + c.read-seen.result.length - c.read-seen.result.start ≡ c.read-seen.result.length = omega arith in
+    let r = c.in-Ok.ensures in
+    let e : c.in-Ok.seen.start + c.in-Ok.seen.length - c.in-Ok.seen.start ≡ c.in-Ok.seen.length = omega arith in
     record {
       part_is = rw (e, r.start_is, r.length_is);
       payload_is = rw (e, r.start_is, r.length_is) (shown (shape_of a.mem.now) a.mem.now a.epoch a.p).part;

@@ -1,21 +1,17 @@
-use Rattle.std.proofs.Common.{arith}
-use Rattle.unit.proofs.Stores.{gap_same}
+use Rattle.std.proofs.Common.{◌≡◌, ◌+◌, ◌-◌, ◌∙◌, arith}
 use Rattle.unit.proofs.store.open_gap.Goals as goal
 
-pub move_up-requires : goal.move_up-requires
-move_up-requires c = omega arith
-
-pub move_up-requires-then-size-eq-LARGE_SLOT : goal.move_up-requires-then-size-eq-LARGE_SLOT
-move_up-requires-then-size-eq-LARGE_SLOT c = omega arith
-
-pub move_up-requires-else-size-eq-LARGE_SLOT : goal.move_up-requires-else-size-eq-LARGE_SLOT
-move_up-requires-else-size-eq-LARGE_SLOT c = omega arith
-
 pub returns-then-size-eq-SMALL_SLOT : goal.returns-then-size-eq-SMALL_SLOT
-returns-then-size-eq-SMALL_SLOT c = gap_same _ _ _ _ _ _ _ c.move_up.ensures (omega arith) (omega arith)
+returns-then-size-eq-SMALL_SLOT c =
+    let e : c.args.at + (c.args.end - c.args.at) ≡ c.args.end = omega arith in
+    c.move_up.ensures ∙ rw (e, c.if-size-eq-SMALL_SLOT.true)
 
 pub returns-then-size-eq-LARGE_SLOT : goal.returns-then-size-eq-LARGE_SLOT
-returns-then-size-eq-LARGE_SLOT c = gap_same _ _ _ _ _ _ _ c.move_up-then-size-eq-LARGE_SLOT.ensures (omega arith) (omega arith)
+returns-then-size-eq-LARGE_SLOT c =
+    let e : c.args.at + (c.args.end - c.args.at) ≡ c.args.end = omega arith in
+    c.move_up-then-size-eq-LARGE_SLOT.ensures ∙ rw (e, c.if-size-eq-LARGE_SLOT.true)
 
 pub returns-else-size-eq-LARGE_SLOT : goal.returns-else-size-eq-LARGE_SLOT
-returns-else-size-eq-LARGE_SLOT c = gap_same _ _ _ _ _ _ _ c.move_up-else-size-eq-LARGE_SLOT.ensures (omega arith) (omega arith)
+returns-else-size-eq-LARGE_SLOT c =
+    let e : c.args.at + (c.args.end - c.args.at) ≡ c.args.end = omega arith in
+    c.move_up-else-size-eq-LARGE_SLOT.ensures ∙ rw e

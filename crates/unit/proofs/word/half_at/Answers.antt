@@ -1,8 +1,9 @@
-use Rattle.std.proofs.Common.{arith}
-use Rattle.num.proofs.Numbers.{le_two}
+use Rattle.std.proofs.Common.{◌+◌, ◌-◌, ◌∙◌, arith}
+use Rattle.unit.proofs.Words.{half_read}
 use Rattle.unit.proofs.word.half_at.Goals as goal
 
 pub returns : goal.returns
 returns c =
-    let a = c.args in
-    (omega (arith, le_two 2 2 a.at a.bytes.now), omega arith)
+    let at = c.args.at in
+    let chunk = rw c.unwrap.ensures at c.try_into.ensures.1 in
+    c.from.ensures ∙ c.from_le_bytes.ensures ∙ half_read at (at + 4 - at) c.args.bytes.now _ chunk.same (omega arith) (omega arith)

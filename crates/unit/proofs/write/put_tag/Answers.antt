@@ -1,15 +1,12 @@
-use Rattle.std.proofs.Common.{◌∙◌, add-one, arith, length-set}
+use Rattle.std.proofs.Common.{◌≡◌, ◌+◌, ◌∷◌, set, replicate, ◌∙◌, refl, add-one, arith, length-set}
 use native.Mathlib.Numerals.{add-two}
+use Rattle.std.proofs.lemmas.List.Edits.{sets}
+use Rattle.unit.proofs.Stores.{part_zeros}
 use Rattle.unit.proofs.write.put_tag.Goals as goal
 
-pub bounds-mem-at-2 : goal.bounds-mem-at-2
-bounds-mem-at-2 c = simp length-set (omega arith)
-
-pub put_zeros-requires : goal.put_zeros-requires
-put_zeros-requires c = simp length-set (omega arith)
-
-pub shape_of-mem : goal.shape_of-mem
-shape_of-mem c = c.put_zeros.auto.mem ∙ simp length-set
-
 pub returns : goal.returns
-returns c = rw (add-one, add-two) at c.put_zeros.ensures
+returns c =
+    let a = c.args in
+    let m = set (set a.mem.now a.at a.kind) (a.at + 1) a.len in
+    let e : sets m (a.at + 2) (replicate 6 0) ≡ sets a.mem.now a.at (a.kind ∷ a.len ∷ replicate 6 0) = rw (add-one, add-two) refl in
+    part_zeros (a.at + 2) _ 6 m _ (c.fill.ensures.after (λ y e. e)) (omega arith) (simp length-set (omega arith)) ∙ e

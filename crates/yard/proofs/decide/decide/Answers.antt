@@ -1,24 +1,20 @@
-use mathlib.Core.Path.{sym, ◌∙◌}
+use Rattle.std.proofs.Common.{sym}
+use Rattle.std.proofs.lemmas.Result.{err_from_is_err_and}
+use Rattle.num.proofs.Refusals.{number_above}
 use Rattle.rule.proofs.Testing.{test_says}
-use Rattle.yard.proofs.Settling.{decides_unlent, decides_decided, decided_small}
+use Rattle.yard.proofs.Stepping.{passed_on}
+use Rattle.yard.proofs.Settling.{decides_unlent, decides_decided}
 use Rattle.yard.proofs.decide.decide.Goals as goal
 
-pub returns-then-number-ne0 : goal.returns-then-number-ne0
-returns-then-number-ne0 c =
+pub returns-in_err-test : goal.returns-in_err-test
+returns-in_err-test c =
     let a = c.args in
-    rw c.left_alone.ensures (decides_unlent a.yard a.seq a.places a.l a.units.now a.s a.job _ (sym c.test_number-number.ensures) c.if-number-ne0.true)
+    rw (passed_on a.core (err_from_is_err_and _ c.from_residual.ensures.1)) (decides_unlent a.core.yard a.core.sequencer a.places a.l a.units.now a.s a.job _ (sym c.in_err-test.ensures) (number_above _))
 
-pub chosen-m-requires : goal.chosen-m-requires
-chosen-m-requires c =
-    let a = c.args in
-    (test_says a.yard a.places a.units.now (sym c.test_number-number.ensures ∙ c.if-number-ne0.false)).memories
-
-pub settle-requires : goal.settle-requires
-settle-requires c =
-    let a = c.args in
-    decided_small c.chosen-m.ensures (test_says a.yard a.places a.units.now (sym c.test_number-number.ensures ∙ c.if-number-ne0.false)).few
+pub chosen-requires : goal.chosen-requires
+chosen-requires c = (test_says c.args.core.yard c.args.places c.args.units.now (sym c.in_ok-test.ensures)).memories
 
 pub returns : goal.returns
 returns c =
     let a = c.args in
-    rw (c.settle.ensures, c.place_of.ensures) (decides_decided a.yard a.seq a.places a.l a.units.now a.s a.job (sym c.test_number-number.ensures ∙ c.if-number-ne0.false) c.chosen-m.ensures)
+    decides_decided a.core.yard a.core.sequencer a.places a.l a.units.now a.s a.job (sym c.in_ok-test.ensures) c.chosen.ensures

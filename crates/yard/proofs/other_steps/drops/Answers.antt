@@ -1,8 +1,8 @@
 use Rattle.yard.proofs.Stepping.{drops_nobody, drops_fine}
 use Rattle.yard.proofs.other_steps.drops.Goals as goal
 
-pub returns-then-yard-i : goal.returns-then-yard-i
-returns-then-yard-i c = let a = c.args in rw c.refused.ensures (drops_nobody a.yard a.seq a.i c.if-yard-i.true)
+pub returns-then-core-i : goal.returns-then-core-i
+returns-then-core-i c = drops_nobody c.args.core.yard c.args.core.sequencer c.args.i c.if-core-i.true
 
 pub returns : goal.returns
-returns c = let a = c.args in rw c.quiet.ensures (drops_fine a.yard a.seq a.i c.if-yard-i.false)
+returns c = rw c.quiet.ensures (drops_fine c.args.core.yard c.args.core.sequencer c.args.i c.if-core-i.false)

@@ -1,15 +1,15 @@
-use mathlib.Core.Path.{sym, ◌∙◌}
-use Rattle.yard.proofs.Stepping.{gives_up_nobody, gives_up_turned}
+use Rattle.std.proofs.Common.{ap, ◌∙◌, true}
+use Rattle.std.proofs.lemmas.Result.{err_from_is_err_and}
+use Rattle.client.specs.Turn.{Turn}
+use Rattle.yard.specs.InsideMoves.{turning}
+use Rattle.yard.proofs.Stepping.{passed_on, gives_up_nobody, gives_up_turned}
 use Rattle.yard.proofs.other_steps.gives_up.Goals as goal
 
-pub returns-then-not-is_client : goal.returns-then-not-is_client
-returns-then-not-is_client c = let a = c.args in rw c.refused.ensures (gives_up_nobody a.yard a.seq a.c (sym c.is_client.ensures ∙ c.if-not-is_client.true))
-
-pub client_of-requires : goal.client_of-requires
-client_of-requires c = sym c.is_client.ensures ∙ c.if-not-is_client.false
-
-pub turned-requires : goal.turned-requires
-turned-requires c = (sym c.is_client.ensures ∙ c.if-not-is_client.false)
+pub returns-in_err-client : goal.returns-in_err-client
+returns-in_err-client c =
+    rw (passed_on c.args.core (err_from_is_err_and _ c.from_residual.ensures.1), c.in_err-client.ensures.1) (gives_up_nobody c.args.core.yard c.args.core.sequencer c.args.c c.in_err-client.ensures.0)
 
 pub returns : goal.returns
-returns c = let a = c.args in rw (c.turned.ensures, c.give_up.ensures, c.client_of.ensures) (gives_up_turned a.yard a.seq a.c (sym c.is_client.ensures ∙ c.if-not-is_client.false))
+returns c =
+    let k = c.args.core in
+    rw (c.turned.ensures ∙ ap (λ (t : Turn). turning k.yard k.sequencer true c.args.c t) c.give_up-turn.ensures, c.in_ok-client.ensures.1) (gives_up_turned c.args.core.yard c.args.core.sequencer c.args.c c.in_ok-client.ensures.0)

@@ -1,25 +1,20 @@
-use mathlib.Core.Path.{sym, ◌∙◌, ap}
-use Rattle.yard.proofs.Stepping.{restarts_nobody, restarts_spent, restarts_fine}
-use Rattle.client.specs.declared.begin.Restarted.{Restarted}
+use Rattle.std.proofs.Common.{ap, sym}
+use Rattle.num.proofs.Refusals.{number_above}
+use Rattle.client.specs.Begin.{Restarted}
+use Rattle.std.proofs.lemmas.Result.{err_from_is_err_and}
+use Rattle.yard.proofs.Stepping.{passed_on, restarts_nobody, restarts_spent, restarts_fine}
 use Rattle.yard.proofs.other_steps.restarts.Goals as goal
 
-pub returns-then-not-is_client : goal.returns-then-not-is_client
-returns-then-not-is_client c = let a = c.args in rw c.refused.ensures (restarts_nobody a.yard a.seq a.c (sym c.is_client.ensures ∙ c.if-not-is_client.true))
+pub returns-in_err-client : goal.returns-in_err-client
+returns-in_err-client c =
+    rw (passed_on c.args.core (err_from_is_err_and _ c.from_residual.ensures.1), c.in_err-client.ensures.1) (restarts_nobody c.args.core.yard c.args.core.sequencer c.args.c c.in_err-client.ensures.0)
 
-pub client_of-requires : goal.client_of-requires
-client_of-requires c = sym c.is_client.ensures ∙ c.if-not-is_client.false
-
-pub returns-then-restarted-ne0 : goal.returns-then-restarted-ne0
-returns-then-restarted-ne0 c =
-    let a = c.args in
-    let e = rw c.client_of.ensures at c.restart-restarted.ensures in
-    rw c.refused-then-restarted-ne0.ensures (restarts_spent a.yard a.seq a.c (sym c.is_client.ensures ∙ c.if-not-is_client.false) (λ z. c.if-restarted-ne0.true (ap (λ (t : Restarted). t.answer) e ∙ z)))
-
-pub with_client-next-requires : goal.with_client-next-requires
-with_client-next-requires c = (sym c.is_client.ensures ∙ c.if-not-is_client.false)
+pub returns-in_err-client-2 : goal.returns-in_err-client-2
+returns-in_err-client-2 c =
+    let e = rw c.in_ok-client.ensures.1 at (ap (λ (r : Restarted). r.answer) c.in_err-client-2.ensures) in
+    rw (passed_on c.args.core (err_from_is_err_and _ c.from_residual-in_err-client-2.ensures.1)) (restarts_spent c.args.core.yard c.args.core.sequencer c.args.c c.in_ok-client.ensures.0 (number_above _) e)
 
 pub returns : goal.returns
 returns c =
-    let a = c.args in
-    let e = rw c.client_of.ensures at c.restart-restarted.ensures in
-    rw (c.quiet.ensures, c.with_client-next.ensures, e) (restarts_fine a.yard a.seq a.c (sym c.is_client.ensures ∙ c.if-not-is_client.false) (sym (ap (λ (t : Restarted). t.answer) e) ∙ c.if-restarted-ne0.false))
+    let e = rw c.in_ok-client.ensures.1 at c.in_ok-client-2.ensures in
+    rw (c.quiet.ensures, c.with_client.ensures, ap (λ (r : Restarted). r.client) e) (restarts_fine c.args.core.yard c.args.core.sequencer c.args.c c.in_ok-client.ensures.0 (sym (ap (λ (r : Restarted). r.answer) e)))

@@ -1,42 +1,21 @@
-use Rattle.std.proofs.Common.{◌≡◌, length, sym, ◌∙◌, arith}
-use Rattle.unit.specs.Shape.{shape_for, memory_size}
-use Rattle.unit.proofs.Shapes.{sized}
-use Rattle.unit.proofs.Freshness.{fresh_length, fresh_shape, fresh_low, fresh_high, fresh_fine, fresh_kept, fresh_made}
+use Rattle.std.proofs.Common.{sym, ◌∙◌}
+use Rattle.num.proofs.Refusals.{number_above, handed_on}
+use Rattle.unit.proofs.Freshness.{fresh_rows, fresh_long, fresh_kept, fresh_made}
 use Rattle.unit.proofs.memory.Unit.fresh.Goals as goal
 
-pub returns-then-mem-ne-SIZE : goal.returns-then-mem-ne-SIZE
-returns-then-mem-ne-SIZE c = let r = fresh_length _ _ _ (λ e. c.if-mem-ne-SIZE.true (e ∙ (sized _).whole)) in record { answer_is = sym r; memory_is = sym (fresh_kept _ _ _ 1 r (omega arith)) }
-
-pub returns-then-code-gt-LARGE : goal.returns-then-code-gt-LARGE
-returns-then-code-gt-LARGE c =
-    let long : length c.args.mem.now ≡ memory_size (shape_for c.args.code) =
-    c.if-mem-ne-SIZE.false ∙ sym (sized _).whole in
-    let r = fresh_shape _ _ _ long c.if-code-gt-LARGE.true in
-    record { answer_is = sym r; memory_is = sym (fresh_kept _ _ _ 10 r (omega arith)) }
-
-pub returns-then-number-lt1 : goal.returns-then-number-lt1
-returns-then-number-lt1 c =
-    let long : length c.args.mem.now ≡ memory_size (shape_for c.args.code) =
-    c.if-mem-ne-SIZE.false ∙ sym (sized _).whole in
-    let r = fresh_low _ _ _ long c.if-code-gt-LARGE.false c.if-number-lt1.true in
-    record { answer_is = sym r; memory_is = sym (fresh_kept _ _ _ 17 r (omega arith)) }
-
-pub returns-then-number-gt-UNITS : goal.returns-then-number-gt-UNITS
-returns-then-number-gt-UNITS c =
-    let long : length c.args.mem.now ≡ memory_size (shape_for c.args.code) =
-    c.if-mem-ne-SIZE.false ∙ sym (sized _).whole in
-    let r = fresh_high _ _ _ long c.if-code-gt-LARGE.false c.if-number-gt-UNITS.true in
-    record { answer_is = sym r; memory_is = sym (fresh_kept _ _ _ 17 r (omega arith)) }
+pub returns-in_err-lowest : goal.returns-in_err-lowest
+returns-in_err-lowest c =
+    let a = rw (c.when.ensures, c.when-2.ensures, c.when-3.ensures) at c.in_err-lowest.ensures in
+    let e = a ∙ sym (fresh_rows _ _ _) in
+    record { answer_is = handed_on _ _ c.from_residual.ensures.1 ∙ e; memory_is = sym (fresh_kept _ _ _ (λ z. number_above _ (e ∙ z))) }
 
 pub clear-requires : goal.clear-requires
 clear-requires c =
-    let long : length c.args.mem.now ≡ memory_size (shape_for c.args.code) =
-    c.if-mem-ne-SIZE.false ∙ sym (sized _).whole in
-    rw c.shape_for.ensures long
+    let a = rw (c.when.ensures, c.when-2.ensures, c.when-3.ensures) at c.in_ok-lowest.ensures in
+    rw c.shape_for.ensures (fresh_long _ c.args.number _ (fresh_rows _ _ _ ∙ sym a))
 
 pub returns : goal.returns
 returns c =
-    let long : length c.args.mem.now ≡ memory_size (shape_for c.args.code) =
-    c.if-mem-ne-SIZE.false ∙ sym (sized _).whole in
-    let r = fresh_fine _ _ _ long c.if-code-gt-LARGE.false c.if-number-lt1.false c.if-number-gt-UNITS.false in
-    record { answer_is = sym r; memory_is = c.clear.ensures ∙ rw c.shape_for.ensures (sym (fresh_made _ _ _ r)) }
+    let a = rw (c.when.ensures, c.when-2.ensures, c.when-3.ensures) at c.in_ok-lowest.ensures in
+    let e = fresh_rows _ _ _ ∙ sym a in
+    record { answer_is = sym e; memory_is = c.clear.ensures ∙ rw c.shape_for.ensures (sym (fresh_made _ _ _ e)) }

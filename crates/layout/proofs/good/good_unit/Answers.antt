@@ -1,5 +1,0 @@
-use Rattle.num.proofs.Bools.{either}
-use Rattle.layout.proofs.good.good_unit.Goals as goal
-
-pub returns : goal.returns
-returns c = either c.args.used _ _
