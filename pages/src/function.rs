@@ -18,11 +18,15 @@ pub struct Function {
     /// Each as the page writes it.
     pub ensures: Vec<String>,
     pub parameters: Vec<String>,
+    /// The type of each parameter that is one of a name, by the parameter's name.
+    pub types: BTreeMap<String, String>,
     /// Its lines in the file, from 0 on: from its first to the one past its last.
     pub lines: (usize, usize),
     pub body: String,
     /// What its file imports: a name, and the path that it stands for; also names that `ensures` uses, by their own name.
     pub imports: BTreeMap<String, String>,
+    /// The names that its clauses take from the rules of other crates.
+    pub foreign: BTreeSet<String>,
 }
 
 /// The word before a function's name, and the name, if the line begins a function.
@@ -153,6 +157,24 @@ fn imports(text: &str, of: &str) -> BTreeMap<String, String> {
     all
 }
 
+/// What the clauses of a crate's file take from the rules of other crates: the names that these have here.
+fn foreign(text: &str, of: &str) -> BTreeSet<String> {
+    let own = format!("Rattle.{of}.");
+    let lines = text.lines().filter_map(|line| line.strip_prefix("ghost use ")).filter(|rest| !rest.starts_with(&own));
+    let lists = lines.filter_map(|rest| rest.split_once(".{")).map(|(_, list)| list.trim_end_matches("};"));
+    lists.flat_map(|list| list.split(", ")).map(|part| part.rsplit(" as ").next().unwrap().to_string()).collect()
+}
+
+/// The parameters whose type is one name, also behind a `&`, each with that name.
+fn types(head: &str) -> BTreeMap<String, String> {
+    let parts = head.split(['(', ',', ')']).filter_map(|part| part.split_once(':'));
+    let named = parts.map(|(name, of)| (name.trim(), of.trim().trim_start_matches("&mut ").trim_start_matches('&')));
+    named
+        .filter(|(_, of)| of.starts_with(char::is_uppercase) && of.chars().all(char::is_alphanumeric))
+        .map(|(name, of)| (name.trim_start_matches("mut ").to_string(), of.to_string()))
+        .collect()
+}
+
 /// The names before a `:` in a function's first lines.
 fn parameters(head: &str) -> Vec<String> {
     let last_word =
@@ -163,7 +185,8 @@ fn parameters(head: &str) -> Vec<String> {
 
 /// The functions, constants and macros of one file; `module` is its path. What a trait's block promises of a type of `seen` is public.
 pub fn functions(text: &str, module: &str, file: &str, seen: &BTreeSet<String>) -> Vec<Function> {
-    let imports = imports(text, module.split("::").next().unwrap());
+    let of = module.split("::").next().unwrap();
+    let (imports, foreign) = (imports(text, of), foreign(text, of));
     let lines: Vec<&str> = text.lines().collect();
     let mut found = Vec::new();
     let mut owner = None;
@@ -185,6 +208,7 @@ pub fn functions(text: &str, module: &str, file: &str, seen: &BTreeSet<String>) 
             let ensures: Vec<String> = promised.iter().flatten().cloned().chain(own).collect();
             Function {
                 parameters: parameters(head),
+                types: types(head),
                 path: format!("{home}::{name}"),
                 file: file.into(),
                 module: module.into(),
@@ -195,6 +219,7 @@ pub fn functions(text: &str, module: &str, file: &str, seen: &BTreeSet<String>) 
                 lines: (i, last),
                 body: body.into(),
                 imports: imports.clone(),
+                foreign: foreign.clone(),
             }
         };
         if let Some((public, name)) = begins(line) {

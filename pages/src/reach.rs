@@ -20,8 +20,12 @@ fn paths(body: &str) -> BTreeSet<String> {
 fn named<'a>(function: &Function, all: &'a BTreeMap<String, &'a Function>) -> Vec<&'a Function> {
     let mut found = Vec::new();
     for path in paths(&function.body) {
-        if let Some((_, method)) = path.rsplit_once('.') {
-            let ending = format!("::{method}");
+        if let Some((on, method)) = path.rsplit_once('.') {
+            // of a parameter's own type; where the type is not told, of every type that has a method of the name
+            let ending = match function.types.get(on) {
+                Some(of) => format!("::{of}::{method}"),
+                None => format!("::{method}"),
+            };
             found.extend(all.values().filter(|f| f.owner.is_some() && f.path.ends_with(&ending)));
             continue;
         }
@@ -70,9 +74,10 @@ pub fn calls(function: &Function, functions: &[Function]) -> Vec<String> {
 }
 
 /// All definitions of its own crate that a promise is made of.
-fn says(function: &Function, definitions: &[Definition]) -> BTreeSet<String> {
+pub fn says(function: &Function, definitions: &[Definition]) -> BTreeSet<String> {
     let own = |word: &str| function.imports.get(word).cloned().unwrap_or_else(|| word.into());
-    let mut left: Vec<String> = function.ensures.iter().flat_map(|e| words(e)).map(own).collect();
+    let named = function.ensures.iter().flat_map(|e| words(e)).filter(|word| !function.foreign.contains(*word));
+    let mut left: Vec<String> = named.map(own).collect();
     let mut seen = BTreeSet::new();
     while let Some(word) = left.pop() {
         for definition in definitions.iter().filter(|d| d.name == word) {

@@ -2,7 +2,7 @@
 //! there is one answer; every edit says what it stands for, and still applies.
 
 use pages::function::{functions, of_crate, Function};
-use pages::{crates, definition, draw, edit, lemma, read, root};
+use pages::{crates, definition, draw, edit, lemma, reach, read, root};
 use std::collections::BTreeSet;
 
 fn public_functions() -> Vec<Function> {
@@ -112,6 +112,21 @@ fn the_reader_of_sources_sees_what_it_should() {
     assert!(inner.iter().all(|path| all.iter().any(|f| f.path == *path && !f.public)));
     let rows = all.iter().find(|f| f.path == "c::m::ROWS").unwrap();
     assert!(rows.lines.1 - rows.lines.0 == 3 && rows.body.contains("one;"));
+}
+
+#[test]
+fn an_edit_stands_at_what_it_touches_and_nowhere_else() {
+    // `answered` is a rule of num here, and not the crate's own of that name; `sets` is asked of a wish, and not of a layout
+    let text = "ghost use Rattle.num.specs.Refusals.{answered};\nghost use Rattle.c.specs.Take.{ready};\n\n\
+        pub fn asks(wish: Wish, held: &Layout) -> u8\n    ensures { answered result ≡ ready wish }\n{\n    wish.sets()\n}\n\n\
+        impl Wish {\n    pub fn sets(self) -> u8 {\n    }\n}\n\nimpl Layout {\n    pub fn sets(self) -> u8 {\n    }\n}\n";
+    let all = functions(text, "c::m", "src/m.rt", &BTreeSet::new());
+    assert_eq!(all[0].foreign, BTreeSet::from(["answered".to_string()]));
+    assert_eq!((all[0].types["wish"].as_str(), all[0].types["held"].as_str()), ("Wish", "Layout"));
+    assert_eq!(reach::calls(&all[0], &all), ["c::m::Wish::sets"]);
+    let rules = "abbrev pub answered : ℕ\nanswered = 1\n\nabbrev pub ready : ℕ\nready = 2\n";
+    let own = definition::of_file(rules, "specs/Take.antt");
+    assert_eq!(reach::says(&all[0], &own), BTreeSet::from(["ready".to_string()]));
 }
 
 #[test]

@@ -1,11 +1,11 @@
 // The play book: reads a play from standard input and writes a line for each of its steps, or the line 22 where it is none.
 #![tactic(auto)]
 
-ghost use Rattle.std.specs.Prelude.{◌-◌, ◌≤◌};
+ghost use Rattle.std.specs.Prelude.{◌-◌, ◌≤◌, length};
 
 use play::show_lines;
 use script::judge::Judged;
-use std::io::{self, Read};
+use std::io::Read;
 
 // One byte more than a play can have tells that a file is too long; what is behind it stays unread.
 const FILE: usize = Judged::SIZE + 1;
@@ -38,12 +38,26 @@ fn tell_all(rt: &impl Print, file: &[u8], out: &mut [u8]) {
     }
 }
 
+// Fills `room` from its start until it is full, standard input ends or a read fails, and says how many bytes came. (d) Tried: `io::copy`, which reads at most
+// 8,192 bytes at a time, so that the rest of a longer message is lost, and which goes on behind a read that was broken off.
+fn heard(rt: &impl Input, room: &mut [u8]) -> usize
+    ensures { result ≤ length room.new }
+{
+    let mut reader = rt.reader();
+    let mut done = 0;
+    while done < room.len() {
+        let n = reader.read(&mut room[done..]).unwrap_or(0);
+        if n == 0 {
+            break;
+        }
+        done += n;
+    }
+    done
+}
+
 fn main(rt: HostRuntime) {
     let mut file = [0; FILE];
-    let mut rest = &mut file[..];
-    // What came before a failed read counts.
-    let _ = io::copy(&mut rt.reader().take(FILE as u64), &mut rest);
-    let n = FILE.saturating_sub(rest.len());
+    let n = heard(&rt, &mut file);
     let mut out = [0; ROOM];
     tell_all(&rt, &file[..n], &mut out);
 }

@@ -121,8 +121,8 @@ impl Reply {
     pub(crate) fn refusal(self) -> Option<Refusal>
         ensures { IsRefusal (number_of self) result }
     {
-        match self {
-            Reply::Refused(number @ 1..=12) => Refusal::try_from(number).ok(),
+        match number_of(self) {
+            number @ 1..=12 => Refusal::try_from(number).ok(),
             _ => None,
         }
     }

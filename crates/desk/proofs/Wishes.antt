@@ -4,7 +4,7 @@ use mathlib.Core.Bool.{Bool, true, false, ◌&&◌, ◌||◌, not, cond, or-true
 use mathlib.Core.List.{List, [], ◌∷◌, map}
 use mathlib.Core.Path.{◌≡◌, refl, sym, ap, ◌∙◌}
 use native.Mathlib.Omega.{arith}
-use borrow.Author.Tests.{not-false, ne_eqb, lt-ltb, le-ltb, ltb-true, ltb-false}
+use borrow.Author.Tests.{not-false, ne_eqb, eqb-true, lt-ltb, le-ltb, ltb-true, ltb-false}
 use lib.Dec.{eqb, ltb, leb}
 use lib.ListN.{length, get_or, take, drop, length-map, length-take}
 use lib.Seq.{take-nil, take_all}
@@ -35,6 +35,16 @@ named_in b u = go (are_sets b)
     go : (t : Bool) → (t && in_sets u (sets_said b)) ≡ in_sets u (cond t (sets_said b) [])
     go true = refl
     go false = refl
+
+-- no bytes name no unit
+pub none_named : (drops b : List ℕ) → eqb (length b) 0 ≡ true → bad_drops drops [] ≡ false → false ≡ bad_drops drops (named_sets b)
+unfolding named_sets sets_at
+none_named drops [] z e = go (are_sets [])
+  where
+    go : (t : Bool) → false ≡ bad_drops drops (cond t (sets_said []) [])
+    go true = sym e
+    go false = sym e
+none_named drops (x ∷ xs) z e = let none : suc (length xs) ≡ 0 = eqb-true (suc (length xs)) 0 z in absurd (omega arith)
 
 -- where the bytes are not good sets, the drops are refused with them
 bad_named : (drops b : List ℕ) (t : Bool) → are_sets b ≡ t → (bad_drops drops (cond t (sets_said b) []) || not (eqb (length b) 0 || t)) ≡ (bad_drops drops (sets_said b) || not (eqb (length b) 0 || t))

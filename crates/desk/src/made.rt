@@ -1,5 +1,5 @@
 // What a reorganise makes of a layout, its new sets as bytes: up to 255, though no more than 15 can be had.
-ghost use Rattle.std.specs.Prelude.{◌≡◌, cond, ◌||◌, not};
+ghost use Rattle.std.specs.Prelude.{◌≡◌, false, [], cond, ◌||◌, not};
 ghost use Rattle.num.specs.Refusals.{answered, given};
 ghost use Rattle.layout.specs.Value.{blank};
 ghost use Rattle.layout.specs.Codec.{sets_said, wish_said};
@@ -13,18 +13,44 @@ use layout::{Layout, Wish};
 use num::refusal::Refusal;
 use num::{Edges, Position};
 
+// Whether a unit to drop is outside 1 to 8. With no early end many are tested at a time.
+fn are_outside(drops: &[u8]) -> bool
+    ensures { result ≡ bad_drops drops.now [] }
+{
+    let mut outside = false;
+    for u in drops {
+        outside = outside | !((1 <= *u) & (*u <= Layout::LAST_UNIT));
+    }
+    outside
+}
+
+// Whether the sets name a unit to drop. Each unit is looked for once, however many there are to drop.
+fn name_dropped(sets: &[u8], drops: &[u8]) -> bool
+    ensures { bad_drops drops.now [] ≡ false → result ≡ bad_drops drops.now (named_sets sets.now) }
+{
+    if sets.is_empty() {
+        return false;
+    }
+    for u in 1..=Layout::LAST_UNIT {
+        if drops.contains(&u) && sets_name(sets, u) {
+            return true;
+        }
+    }
+    false
+}
+
 // Whether a unit to drop is outside 1 to 8, or also named in a new set.
 fn drops_are_bad(drops: &[u8], sets: &[u8]) -> bool
     ensures { result ≡ bad_drops drops.now (named_sets sets.now) }
 {
-    drops.iter().any(|u| !(1 <= *u && *u <= Layout::LAST_UNIT) || sets_name(sets, *u))
+    are_outside(drops) || name_dropped(sets, drops)
 }
 
 // Whether the drops are bad, or the new sets not good.
 fn are_bad(drops: &[u8], sets: &[u8]) -> bool
     ensures { result ≡ (bad_drops drops.now (sets_said sets.now) || not (fine_sets sets.now)) }
 {
-    drops_are_bad(drops, sets) | !(sets.is_empty() | are_sets(sets))
+    drops_are_bad(drops, sets) || !(sets.is_empty() | are_sets(sets))
 }
 
 // The first 16 new sets. An empty set, which no plan takes, stands for what is bad, also behind the 16th.

@@ -33,6 +33,7 @@ pub mod Keeps
 pub mod Lawful
 pub mod OfferedTo
 pub mod Without
+pub mod Dropped
 pub mod GoodChains
 pub mod ReorganiseAnswer
 pub mod Assembled

@@ -1,4 +1,4 @@
-// The layout holder, by value: what it answers, and what it holds afterwards.
+// The layout holder: what it answers, and what it holds afterwards.
 ghost use Rattle.std.specs.Prelude.{◌≡◌, ◌+◌, eqb};
 ghost use Rattle.num.specs.Refusals.{answered};
 ghost use Rattle.layout.specs.Holder.{offer_answer, offered_in, offered_to, fetched_in, fetched_from};

@@ -32,7 +32,7 @@ pub fn sets_name(b: &[u8], unit: u8) -> bool
         found = found | c.holds(unit);
         rest = behind(rest, 1 + size(c.count));
     }
-    are_sets(b) & found
+    found && are_sets(b)
 }
 
 // The sets that the bytes say: their count, and the first 16.

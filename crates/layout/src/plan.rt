@@ -1,5 +1,5 @@
 // The plan of a reorganise: units to drop, and new sets if wanted.
-ghost use Rattle.std.specs.Prelude.{◌≡◌, true, false, MatchOption, cond, ◌||◌, map, ◌+◌, ◌-◌, ◌<◌, ◌≤◌, ltb, length, take, set};
+ghost use Rattle.std.specs.Prelude.{◌≡◌, true, false, [], MatchOption, cond, ◌||◌, map, ◌+◌, ◌-◌, ◌<◌, ◌≤◌, ltb, length, take, set};
 ghost use Rattle.std.proofs.lemmas.List.Edits.{sets as stored};
 ghost use Rattle.num.specs.Refusals.{answered};
 ghost use Rattle.layout.specs.Lay.{sets_limit, ranges_limit};
@@ -59,12 +59,39 @@ fn empties(sets: &[Chain], drops: &[u8]) -> bool
     sets.iter().any(|c| shrunk(c, drops).count == 0)
 }
 
+// Whether a unit to drop is outside 1 to 8. With no early end many are tested at a time.
+fn are_outside(drops: &[u8]) -> bool
+    ensures { result ≡ bad_drops drops.now [] }
+{
+    let mut outside = false;
+    for u in drops {
+        outside = outside | !((1 <= *u) & (*u <= Layout::LAST_UNIT));
+    }
+    outside
+}
+
+// Whether one of the sets names a unit to drop. Each unit is looked for once, however many there are to drop.
+#[tactic(auto, using(crate::proofs::Found::contains_is, crate::proofs::Dropped::named_bad, crate::proofs::Dropped::unnamed_first, crate::proofs::Dropped::unnamed_skip, crate::proofs::Dropped::unnamed_more, crate::proofs::Dropped::unnamed_all, crate::proofs::Dropped::none_named))]
+fn name_dropped(sets: &[Chain], drops: &[u8]) -> bool
+    ensures { bad_drops drops.now [] ≡ false → result ≡ bad_drops drops.now (map units_in sets.now) }
+{
+    if sets.is_empty() {
+        return false;
+    }
+    for u in 1..=Layout::LAST_UNIT {
+        if drops.contains(&u) && in_sets(sets, u) {
+            return true;
+        }
+    }
+    false
+}
+
 // Whether a unit to drop is outside 1 to 8, or also named in a new set.
+#[tactic(auto, using(crate::proofs::Dropped::outside_bad))]
 fn bad_drops(drops: &[u8], wish: Wish) -> bool
     ensures { result ≡ bad_drops drops.now (new_of wish) }
 {
-    let named = wish.sets();
-    drops.iter().any(|u| !(1 <= *u && *u <= Layout::LAST_UNIT) || in_sets(named, *u))
+    are_outside(drops) || name_dropped(wish.sets(), drops)
 }
 
 // One range more, its start open, where there are new sets for it.

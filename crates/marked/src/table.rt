@@ -83,8 +83,8 @@ const TABLE: [Row; Row::COUNT] = table! {
 };
 
 // The table, row for row that of the rules.
-pub(crate) fn table() -> [Row; Row::COUNT]
-    ensures { rows_in result ≡ rows }
+pub(crate) fn table() -> &'static [Row; Row::COUNT]
+    ensures { rows_in result.now ≡ rows }
 {
-    TABLE
+    &TABLE
 }

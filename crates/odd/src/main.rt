@@ -1,6 +1,8 @@
 // Runs a play from a fresh yard that is made odd first: what no play from a fresh yard can reach. A byte names the oddity, and the play follows it.
 #![tactic(auto)]
 
+ghost use Rattle.std.specs.Prelude.{◌≤◌, length};
+
 use crate::make::{Oddity, made_odd};
 use client::Outcome;
 use kept::{Kept, fresh_kept, step_kept};
@@ -9,7 +11,7 @@ use num::refusal::{Refusal, number_of};
 use rule::{Stepped, Yard};
 use script::judge::{Judged, judge};
 use script::step::step_at;
-use std::io::{self, Read};
+use std::io::Read;
 
 mod make;
 
@@ -57,12 +59,26 @@ fn run(rt: &impl Print, input: &[u8]) -> Result<(), Refusal> {
     Ok(())
 }
 
-// Reads until there is no more room, standard input ends or a read fails.
+// Fills `room` from its start until it is full, standard input ends or a read fails, and says how many bytes came. As in `book`, and for its reason: what an input
+// gives has no law of one answer, which a public function would need.
+fn heard(rt: &impl Input, room: &mut [u8]) -> usize
+    ensures { result ≤ length room.new }
+{
+    let mut reader = rt.reader();
+    let mut done = 0;
+    while done < room.len() {
+        let n = reader.read(&mut room[done..]).unwrap_or(0);
+        if n == 0 {
+            break;
+        }
+        done += n;
+    }
+    done
+}
+
 fn main(rt: HostRuntime) {
     let mut input = [0u8; ROOM];
-    let mut rest = &mut input[..];
-    let _ = io::copy(&mut rt.reader().take(ROOM as u64), &mut rest);
-    let came = ROOM.saturating_sub(rest.len());
+    let came = heard(&rt, &mut input);
     if let Err(refusal) = run(&rt, &input[..came]) {
         let _ = println!(rt; "{}", refusal.number());
     }

@@ -56,6 +56,18 @@ fit_room room (x ∷ xs) = go (leb (length x) room) refl (fit_room (room - lengt
 pub shown_front : (b : List ℕ) (from room : ℕ) → joined (shown_of b from room) ++ joined (drop (from - 1 + length (shown_of b from room)) (lines_of b)) ≡ joined (drop (from - 1) (lines_of b))
 shown_front b from room = rw (← drop-drop (length (shown_of b from room)) (from - 1) (lines_of b)) (fit_front room (drop (from - 1) (lines_of b)))
 
+module _ (b : List ℕ) (from room : ℕ) where
+  -- no more than are left of at most 65,536
+  few : is_play b ≡ true → length (shown_of b from room) ≤ 65536 - (from - 1)
+  few is_one =
+      let play = plays b is_one in
+      let left : length (drop (from - 1) (lines_of b)) ≡ count_of b - (from - 1) = length-drop (from - 1) (lines_of b) ∙ rw (lines_count 0 (count_of b) b) in
+      omega (arith, fit_few room (drop (from - 1) (lines_of b)), left, play.few, play.short)
+
+  -- within the buffer
+  within : length (joined (shown_of b from room)) ≤ room
+  within = fit_room room (drop (from - 1) (lines_of b))
+
 module _ {b : List ℕ} {from : ℕ} {out : List ℕ} {s : Shown} {out' : List ℕ} (is : IsRun b from out (Ok s) out') where
   yes : is_play b ≡ true
   yes = go (is_play b) refl
@@ -67,19 +79,11 @@ module _ {b : List ℕ} {from : ℕ} {out : List ℕ} {s : Shown} {out' : List �
   shown_is : s ≡ record { lines = length (shown_of b from (length out)); written = length (joined (shown_of b from (length out))) }
   shown_is = let both : Ok s ≡ Ok (record { lines = length (shown_of b from (length out)); written = length (joined (shown_of b from (length out))) }) = is.told_is ∙ rw yes in cc
 
-  -- no more than are left of at most 65,536
   pub lines_few : s.lines ≤ 65536 - (from - 1)
-  lines_few =
-      let play = plays b yes in
-      let told : s.lines ≡ length (shown_of b from (length out)) = ap (λ (x : Shown). x.lines) shown_is in
-      let left : length (drop (from - 1) (lines_of b)) ≡ count_of b - (from - 1) = length-drop (from - 1) (lines_of b) ∙ rw (lines_count 0 (count_of b) b) in
-      omega (arith, told, fit_few (length out) (drop (from - 1) (lines_of b)), left, play.few, play.short)
+  lines_few = rw shown_is (few b from (length out) yes)
 
-  -- within the buffer
   pub bytes_few : s.written ≤ length out
-  bytes_few =
-      let told : s.written ≡ length (joined (shown_of b from (length out))) = ap (λ (x : Shown). x.written) shown_is in
-      omega (arith, told, fit_room (length out) (drop (from - 1) (lines_of b)))
+  bytes_few = rw shown_is (within b from (length out))
 
   -- the lent numbers of a caller in C
   pub lent_shown : (lines written : ℕ) → IsShown b from out lines written 0 out' s.lines s.written
@@ -101,3 +105,18 @@ none_shown {b} {from} {out} {r} {out'} lines written is = go (is_play b) refl
         let both : Err r ≡ Err Play = is.told_is ∙ rw e in
         let play : r ≡ Play = cc in
         record { answer_is = rw (e, play); out_is = is.out_is; lines_is = sym (rw e); written_is = sym (rw e) }
+
+-- the same of what a caller in C is told
+module _ {b : List ℕ} {from : ℕ} {out : List ℕ} {lines written answer : ℕ} {out' : List ℕ} {lines' written' : ℕ} (is : IsShown b from out lines written answer out' lines' written') (fine : answer ≡ 0) where
+  played : is_play b ≡ true
+  played = go (is_play b) (sym fine ∙ is.answer_is)
+    where
+      go : (t : Bool) → ◌≡◌ {A = ℕ} 0 (cond t 0 22) → t ≡ true
+      go true e = refl
+      go false e = absurd (omega arith)
+
+  pub told_lines_few : lines' ≤ 65536 - (from - 1)
+  told_lines_few = let told : lines' ≡ length (shown_of b from (length out)) = is.lines_is ∙ rw played in rw told (few b from (length out) played)
+
+  pub told_bytes_few : written' ≤ length out
+  told_bytes_few = let told : written' ≡ length (joined (shown_of b from (length out))) = is.written_is ∙ rw played in rw told (within b from (length out))

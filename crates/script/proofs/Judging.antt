@@ -16,7 +16,7 @@ use Rattle.num.proofs.Refusals.{number_above}
 use Rattle.num.specs.Bytes.{number_at}
 use Rattle.num.proofs.Tests.{and_false}
 use Rattle.layout.specs.declared.Layout.{Layout}
-use Rattle.layout.specs.Codec.{is_layout, read_answer, LayoutRead}
+use Rattle.layout.specs.Codec.{is_layout, read_answer, read_layout, LayoutRead}
 use Rattle.layout.proofs.ReadLayout.{written_read}
 use Rattle.script.specs.Steps.{are_cues}
 use Rattle.script.specs.Play.{play_limit, layout_size, layout_part, layout_of, count_of, first_of, steps_of, starts_yard, is_play, judged_of}
@@ -34,6 +34,16 @@ read_refused x r e = go (is_layout x) refl
     go : (t : Bool) → is_layout x ≡ t → is_layout x ≡ false
     go true y = absurd (number_above r (e ∙ rw y))
     go false y = y
+
+-- a layout that was read starts a yard where its epoch is 1
+pub starts_read : (x : List ℕ) → (is_layout x && starts_yard (read_layout x)) ≡ (eqb (read_answer x) 0 && eqb (read_layout x).epoch.0 1)
+starts_read x = go (is_layout x) refl
+  where
+    go : (t : Bool) → is_layout x ≡ t → (t && starts_yard (read_layout x)) ≡ (eqb (read_answer x) 0 && eqb (read_layout x).epoch.0 1)
+    go true e =
+        let fine : read_answer x ≡ 0 = rw e in
+        rw (fine, (written_read x fine).0)
+    go false e = rw e
 
 module _ (b : List ℕ) where
   -- too long, or too short for both counts

@@ -76,7 +76,7 @@ pub fn forget(s: &mut Sequencer)
     s.next = Position(0);
 }
 
-// Whatever is asked, by value: a yard keeps what comes of it only where its bag has room.
+// Whatever is asked, of a copy: what comes of it, and the sequencer afterwards.
 pub fn stepped(s: Sequencer, asked: Asked) -> Step
     ensures { Served s asked (told_as placed result.told) result.after }
 {

@@ -1,6 +1,6 @@
 -- Runs of the code: `fresh` answered 0, then each move was one call of `step`; both are known by their promises alone. Demand 3 is said of such runs, its last sentence
 -- included. `proofs/CodeRuns` proves it (`of_code`).
--- Rests on the yard's promises (IsMade, IsStep) and on Shapes.
+-- Rests on the yard's promises (IsMade, IsStep) and on Shapes. `Made` and `Stepped` say what the functions' results are to the rules: `made_in`, `stepped_in`.
 use Rattle.std.specs.Prelude.{◌≡◌, List, [], ◌∷◌, ℕ}
 use Rattle.num.specs.declared.Position.{Position}
 use Rattle.layout.specs.declared.Layout.{Layout}

@@ -12,6 +12,7 @@ use Rattle.std.proofs.lemmas.List.{get_or_past}
 use Rattle.num.proofs.Numbers.{Bytes}
 use Rattle.num.proofs.Tests.{false_true}
 use Rattle.unit.specs.Shape.{shape_for}
+use Rattle.unit.specs.declared.shape.Shape.{Shape}
 use Rattle.unit.specs.State.{State}
 use Rattle.sequencer.specs.declared.Sequencer.{Sequencer}
 use Rattle.client.specs.declared.Ask.{Ask}
@@ -27,7 +28,7 @@ use Rattle.rule.specs.declared.Yard.{Yard}
 use Rattle.rule.specs.World.{World, shape_under, is_client, unit_limit, blank_letter}
 use Rattle.rule.specs.Serve.{ServedWorld, serve, unserved}
 use Rattle.rule.specs.Steps.{Done, refused, without, keeping, too_many, sent_by, answer_to, answers, served, taken, response, delivered, delivers}
-use Rattle.rule.specs.Lent.{good_units, units_in}
+use Rattle.rule.specs.Lent.{good_units, units_in, units_bytes}
 use Rattle.rule.proofs.Testing.{units_same}
 use Rattle.rule.proofs.Serving.{serve_clients, serve_stopped, serve_letters}
 use Rattle.yard.specs.InsideParts.{world_of, IsServed}
@@ -62,17 +63,15 @@ answers_is false s r = refl
 
 -- ---- a refusal, for one that is brought a letter
 
+-- whatever the units are, and what bytes they are
+pub decided_moved : {sh : Shape} {l : Letter} {rule : List Letter → List State → Done} {n i : ℕ} {mv : Moves} (us : List State) {after : List ℕ} → after ≡ units_bytes sh us → Moved rule n i mv
+    → Decided sh l (λ ls. rule ls us) n i mv after
+decided_moved us e v = record { units = us; memories_is = e; done_is = λ ls z k. v.done_is ls us z; count_is = v.count_is; there = v.there; room = v.room }
+
 -- where the memories stay as they are
 pub decided_same : {l : Letter} {rule : List Letter → List State → Done} {n i : ℕ} {mv : Moves} (shape : ℕ) (m : List ℕ) → Bytes m → good_units shape 1 8 m ≡ true → Moved rule n i mv
     → Decided (shape_for shape) l (λ ls. rule ls (units_in (shape_for shape) unit_limit m)) n i mv m
-decided_same shape m b g v = record {
-  units = units_in (shape_for shape) unit_limit m;
-  memories_is = sym (units_same shape 1 8 m b g);
-  done_is = λ ls e z. v.done_is ls _ e;
-  count_is = v.count_is;
-  there = v.there;
-  room = v.room;
-}
+decided_same shape m b g v = decided_moved (units_in (shape_for shape) unit_limit m) (sym (units_same shape 1 8 m b g)) v
 
 -- whether a table of one row applies
 pub applies : {k : ℕ} (b : Bool) (n : ℕ) → (k ≡ 0 → ⊥) → k ≡ cond b n 0 → b ≡ true
@@ -152,27 +151,36 @@ blank_at ls n i e z q = go (ltb i n) refl
     go false t = ap (λ (x : Letter). x.body) (get_or_past ls i blank_letter (rw e (ltb-false i n t)))
 
 -- there is no such letter, or it is blank
-pub delivers_nobody : (y : Yard) (s : Sequencer) (m : List ℕ) (i : ℕ) (keep k : Bool) (l : Letter) → Bytes m → good_units y.held.shape 1 8 m ≡ true → (i < y.count → l.body ≡ Blank)
-    → Decided (shape_under y.held) l (λ ls. delivers (world_of y s ls m) i keep k) y.count i (refusing y s 17) m
+pub delivers_nobody : {sh : Shape} (y : Yard) (s : Sequencer) (us : List State) {after : List ℕ} (i : ℕ) (keep k : Bool) (l : Letter) → after ≡ units_bytes sh us → (i < y.count → l.body ≡ Blank)
+    → Decided sh l (λ ls. delivers (world_with y s ls us) i keep k) y.count i (refusing y s 17) after
 unfolding delivers delivered
-delivers_nobody y s m i keep k l b g q = record {
-  units = units_in (shape_under y.held) unit_limit m;
-  memories_is = sym (units_same y.held.shape 1 8 m b g);
-  done_is = λ ls e z. rw (blank_at ls y.count i e z q) (ap (λ (x : List Letter). refused (world_of y s x m) 17) (sym (append-nil ls)));
+delivers_nobody y s us i keep k l m q = record {
+  units = us;
+  memories_is = m;
+  done_is = λ ls e z. rw (blank_at ls y.count i e z q) (ap (λ (x : List Letter). refused (world_with y s x us) 17) (sym (append-nil ls)));
   count_is = refl;
   there = λ z. absurd (false_true (sym z));
   room = λ z. omega arith;
 }
 
+-- the same of the memories that are lent
+pub lent_nobody : (y : Yard) (s : Sequencer) (m : List ℕ) (i : ℕ) (keep k : Bool) (l : Letter) → Bytes m → good_units y.held.shape 1 8 m ≡ true → (i < y.count → l.body ≡ Blank)
+    → Decided (shape_under y.held) l (λ ls. delivers (world_of y s ls m) i keep k) y.count i (refusing y s 17) m
+lent_nobody y s m i keep k l b g q = delivers_nobody y s (units_in (shape_under y.held) unit_limit m) i keep k l (sym (units_same y.held.shape 1 8 m b g)) q
+
 -- the letter is the one at its place
-pub delivers_brought : (y : Yard) (s : Sequencer) (m : List ℕ) {i : ℕ} (keep k : Bool) {l : Letter} {mv : Moves} {after : List ℕ} → i < y.count
-    → Decided (shape_under y.held) l (λ ls. delivered (world_of y s ls m) i keep k l) y.count i mv after → Decided (shape_under y.held) l (λ ls. delivers (world_of y s ls m) i keep k) y.count i mv after
+pub delivers_brought : {sh : Shape} (y : Yard) (s : Sequencer) (us : List State) {i : ℕ} (keep k : Bool) {l : Letter} {mv : Moves} {after : List ℕ} → i < y.count
+    → Decided sh l (λ ls. delivered (world_with y s ls us) i keep k l) y.count i mv after → Decided sh l (λ ls. delivers (world_with y s ls us) i keep k) y.count i mv after
 unfolding delivers
-delivers_brought y s m {i} keep k {l} h d = record {
+delivers_brought y s us {i} keep k {l} h d = record {
   units = d.units;
   memories_is = d.memories_is;
-  done_is = λ ls e z. ap (λ (x : Letter). delivered (world_of y s ls m) i keep k x) (z h) ∙ d.done_is ls e z;
+  done_is = λ ls e z. ap (λ (x : Letter). delivered (world_with y s ls us) i keep k x) (z h) ∙ d.done_is ls e z;
   count_is = d.count_is;
   there = d.there;
   room = d.room;
 }
+
+pub lent_brought : (y : Yard) (s : Sequencer) (m : List ℕ) {i : ℕ} (keep k : Bool) {l : Letter} {mv : Moves} {after : List ℕ} → i < y.count
+    → Decided (shape_under y.held) l (λ ls. delivered (world_of y s ls m) i keep k l) y.count i mv after → Decided (shape_under y.held) l (λ ls. delivers (world_of y s ls m) i keep k) y.count i mv after
+lent_brought y s m keep k h d = delivers_brought y s (units_in (shape_under y.held) unit_limit m) keep k h d

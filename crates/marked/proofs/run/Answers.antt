@@ -11,7 +11,7 @@ overflow_add-wrong g c = omega (arith, c.loop-k.invariant.none_wrong)
 
 pub loop-k-preserved : goal.loop-k-preserved
 loop-k-preserved g c =
-    let e = is_row c.table-rows.result c.loop-k.k _ c.table-rows.ensures c.loop-k-test.true in
+    let e = is_row c.table-rows.result.now c.loop-k.k _ c.table-rows.ensures c.loop-k-test.true in
     let s = c.loop-k.invariant in
     let x = c.tell-got.ensures in
     elim c.if-not-show.branch [
