@@ -1,6 +1,6 @@
 //! The definitions of a crate's specs/, each with the words that it is made of.
 
-use crate::{entries, name_of, read, words, Crate};
+use crate::{entries, foreign, name_of, read, words, Crate};
 
 pub struct Definition {
     pub name: String,
@@ -23,16 +23,18 @@ fn begins(line: &str) -> Option<&str> {
     rest.split([' ', ':']).next().filter(|name| !name.is_empty() && *name != "use")
 }
 
-pub fn of_file(text: &str, file: &str) -> Vec<Definition> {
+/// `of` is the file's crate: a word that the file takes from another stands for nothing of this one.
+pub fn of_file(text: &str, file: &str, of: &str) -> Vec<Definition> {
+    let elsewhere = foreign(text, "use ", of);
     let lines: Vec<&str> = text.lines().collect();
     let starts: Vec<usize> = (0..lines.len()).filter(|i| begins(lines[*i]).is_some()).collect();
     let mut all = Vec::new();
     for (k, from) in starts.iter().enumerate() {
         let to = starts.get(k + 1).copied().unwrap_or(lines.len());
         let text = lines[*from..to].iter().filter(|l| !l.trim_start().starts_with("--")).copied().collect::<Vec<_>>();
-        let made_of = text.iter().flat_map(|line| words(line)).map(String::from).collect();
+        let made_of = text.iter().flat_map(|line| words(line)).filter(|word| !elsewhere.contains(*word));
         let name = begins(lines[*from]).unwrap().to_string();
-        all.push(Definition { name, file: file.into(), lines: (*from, to), words: made_of });
+        all.push(Definition { name, file: file.into(), lines: (*from, to), words: made_of.map(String::from).collect() });
     }
     all
 }
@@ -40,5 +42,5 @@ pub fn of_file(text: &str, file: &str) -> Vec<Definition> {
 pub fn of_crate(of: &Crate) -> Vec<Definition> {
     let files =
         entries(&of.folder().join("specs")).into_iter().filter(|path| path.extension().is_some_and(|e| e == "antt"));
-    files.flat_map(|path| of_file(&read(&path), &format!("specs/{}.antt", name_of(&path)))).collect()
+    files.flat_map(|path| of_file(&read(&path), &format!("specs/{}.antt", name_of(&path)), &of.name)).collect()
 }

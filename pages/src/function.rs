@@ -1,6 +1,6 @@
 //! The functions, constants and macros of the crates' sources, with what stands between a function's name and its body.
 
-use crate::{entries, name_of, read, Crate};
+use crate::{entries, foreign, name_of, read, Crate};
 use std::collections::{BTreeMap, BTreeSet};
 use std::path::Path;
 
@@ -157,14 +157,6 @@ fn imports(text: &str, of: &str) -> BTreeMap<String, String> {
     all
 }
 
-/// What the clauses of a crate's file take from the rules of other crates: the names that these have here.
-fn foreign(text: &str, of: &str) -> BTreeSet<String> {
-    let own = format!("Rattle.{of}.");
-    let lines = text.lines().filter_map(|line| line.strip_prefix("ghost use ")).filter(|rest| !rest.starts_with(&own));
-    let lists = lines.filter_map(|rest| rest.split_once(".{")).map(|(_, list)| list.trim_end_matches("};"));
-    lists.flat_map(|list| list.split(", ")).map(|part| part.rsplit(" as ").next().unwrap().to_string()).collect()
-}
-
 /// The parameters whose type is one name, also behind a `&`, each with that name.
 fn types(head: &str) -> BTreeMap<String, String> {
     let parts = head.split(['(', ',', ')']).filter_map(|part| part.split_once(':'));
@@ -186,7 +178,7 @@ fn parameters(head: &str) -> Vec<String> {
 /// The functions, constants and macros of one file; `module` is its path. What a trait's block promises of a type of `seen` is public.
 pub fn functions(text: &str, module: &str, file: &str, seen: &BTreeSet<String>) -> Vec<Function> {
     let of = module.split("::").next().unwrap();
-    let (imports, foreign) = (imports(text, of), foreign(text, of));
+    let (imports, foreign) = (imports(text, of), foreign(text, "ghost use ", of));
     let lines: Vec<&str> = text.lines().collect();
     let mut found = Vec::new();
     let mut owner = None;

@@ -8,6 +8,7 @@ pub mod function;
 pub mod lemma;
 pub mod reach;
 
+use std::collections::BTreeSet;
 use std::fs;
 use std::path::{Path, PathBuf};
 
@@ -56,6 +57,14 @@ pub fn crates() -> Vec<Crate> {
         rests: rests.split_whitespace().map(String::from).collect(),
     };
     lines.map(named).collect()
+}
+
+/// What a file takes from the rules of crates other than `of`, by its lines that begin with `word`: the names that these have there.
+pub fn foreign(text: &str, word: &str, of: &str) -> BTreeSet<String> {
+    let own = format!("Rattle.{of}.");
+    let lines = text.lines().filter_map(|line| line.strip_prefix(word)).filter(|rest| !rest.starts_with(&own));
+    let lists = lines.filter_map(|rest| rest.split_once(".{")).map(|(_, list)| list.trim_end_matches(['}', ';']));
+    lists.flat_map(|list| list.split(", ")).map(|part| part.rsplit(" as ").next().unwrap().to_string()).collect()
 }
 
 /// The words of a text: names with their primes, and fields with their dot. What begins with a capital is a path, and one word.

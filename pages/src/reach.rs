@@ -6,14 +6,23 @@ use crate::function::Function;
 use crate::{read, words, Crate};
 use std::collections::{BTreeMap, BTreeSet};
 
-/// The paths in a body: names with `::` between them, methods with their dot, and macros with their `!`.
+/// The paths in a body: names with `::` between them, methods that are called with their dot, and macros with their `!`.
 fn paths(body: &str) -> BTreeSet<String> {
     let code: String = body.lines().map(|line| line.split("//").next().unwrap_or("")).collect::<Vec<_>>().join("\n");
     let in_path = |c: char| c.is_alphanumeric() || matches!(c, '_' | ':' | '.' | '!');
-    code.split(|c: char| !in_path(c))
-        .map(|path| path.trim_matches(':').trim_start_matches('!').to_string())
-        .filter(|path| !path.is_empty())
-        .collect()
+    let mut found = BTreeSet::new();
+    for piece in code.replace("::<", "(").split_inclusive('(') {
+        let words: Vec<&str> = piece.split(|c: char| !in_path(c)).collect();
+        for (i, word) in words.iter().enumerate() {
+            // a name behind a dot that is not called is a field
+            let called = piece.ends_with('(') && i + 2 == words.len();
+            if called || !word.contains('.') {
+                found.insert(word.trim_matches(':').trim_start_matches('!').to_string());
+            }
+        }
+    }
+    found.remove("");
+    found
 }
 
 /// The functions and constants of its own crate that a function names.

@@ -116,16 +116,18 @@ fn the_reader_of_sources_sees_what_it_should() {
 
 #[test]
 fn an_edit_stands_at_what_it_touches_and_nowhere_else() {
-    // `answered` is a rule of num here, and not the crate's own of that name; `sets` is asked of a wish, and not of a layout
+    // `answered` is a rule of num here, and not the crate's own of that name; `sets` is asked of a wish, and not of a layout, whose field is read
     let text = "ghost use Rattle.num.specs.Refusals.{answered};\nghost use Rattle.c.specs.Take.{ready};\n\n\
-        pub fn asks(wish: Wish, held: &Layout) -> u8\n    ensures { answered result ≡ ready wish }\n{\n    wish.sets()\n}\n\n\
+        pub fn asks(wish: Wish, held: &Layout) -> u8\n    ensures { answered result ≡ ready wish }\n{\n    wish.sets() + held.sets[0]\n}\n\n\
         impl Wish {\n    pub fn sets(self) -> u8 {\n    }\n}\n\nimpl Layout {\n    pub fn sets(self) -> u8 {\n    }\n}\n";
     let all = functions(text, "c::m", "src/m.rt", &BTreeSet::new());
     assert_eq!(all[0].foreign, BTreeSet::from(["answered".to_string()]));
     assert_eq!((all[0].types["wish"].as_str(), all[0].types["held"].as_str()), ("Wish", "Layout"));
     assert_eq!(reach::calls(&all[0], &all), ["c::m::Wish::sets"]);
+    let rules = "use Rattle.num.specs.Refusals.{answered}\n\nabbrev pub ready : ℕ\nready = answered\n";
+    assert!(!definition::of_file(rules, "specs/Take.antt", "c")[0].words.contains(&"answered".to_string()));
     let rules = "abbrev pub answered : ℕ\nanswered = 1\n\nabbrev pub ready : ℕ\nready = 2\n";
-    let own = definition::of_file(rules, "specs/Take.antt");
+    let own = definition::of_file(rules, "specs/Take.antt", "c");
     assert_eq!(reach::says(&all[0], &own), BTreeSet::from(["ready".to_string()]));
 }
 
@@ -134,7 +136,7 @@ fn the_reader_of_rules_sees_what_it_should() {
     let text = "-- a comment\npub record Is (a : ℕ) : Type 0 where\n  pub answer_is : a ≡ two\n\nunfoldable pub two : ℕ\ntwo = 2\n\nabbrev pub three : ℕ\nthree = 3\n\n\
         pub data Kind : Type 0 where\n  none : Kind\n";
     let names: Vec<(String, (usize, usize))> =
-        definition::of_file(text, "specs/Two.antt").into_iter().map(|d| (d.name, d.lines)).collect();
+        definition::of_file(text, "specs/Two.antt", "c").into_iter().map(|d| (d.name, d.lines)).collect();
     let all = [("Is", (1, 4)), ("two", (4, 7)), ("three", (7, 10)), ("Kind", (10, 12))];
     assert_eq!(names, all.map(|(name, lines)| (name.to_string(), lines)));
     let lemmas = lemma::of_text(

@@ -1,5 +1,5 @@
 -- New sets as bytes, and the wish that is made of them: what a plan over the wish answers is what it answers over the sets.
-use Prim.Native.Nat.{ℕ, zero, suc, ◌+◌, min, ◌≤◌}
+use Prim.Native.Nat.{ℕ, zero, suc, ◌+◌, ◌<◌, min, ◌≤◌}
 use mathlib.Core.Bool.{Bool, true, false, ◌&&◌, ◌||◌, not, cond, or-true}
 use mathlib.Core.List.{List, [], ◌∷◌, map}
 use mathlib.Core.Path.{◌≡◌, refl, sym, ap, ◌∙◌}
@@ -36,15 +36,21 @@ named_in b u = go (are_sets b)
     go true = refl
     go false = refl
 
--- no bytes name no unit
-pub none_named : (drops b : List ℕ) → eqb (length b) 0 ≡ true → bad_drops drops [] ≡ false → false ≡ bad_drops drops (named_sets b)
-unfolding named_sets sets_at
-none_named drops [] z e = go (are_sets [])
+-- no bytes, or one, name no unit: one is a count of 0, or no good sets
+pub few_named : (drops b : List ℕ) → length b < 2 → bad_drops drops [] ≡ false → false ≡ bad_drops drops (named_sets b)
+unfolding named_sets sets_at are_sets good_sets good_set padded
+few_named drops [] h e = go (are_sets [])
   where
     go : (t : Bool) → false ≡ bad_drops drops (cond t (sets_said []) [])
     go true = sym e
     go false = sym e
-none_named drops (x ∷ xs) z e = let none : suc (length xs) ≡ 0 = eqb-true (suc (length xs)) 0 z in absurd (omega arith)
+few_named drops (zero ∷ []) h e = go (are_sets (zero ∷ []))
+  where
+    go : (t : Bool) → false ≡ bad_drops drops (cond t (sets_said (zero ∷ [])) [])
+    go true = sym e
+    go false = sym e
+few_named drops (suc n ∷ []) h e = let bad : are_sets (suc n ∷ []) ≡ false = refl in rw bad (sym e)
+few_named drops (x ∷ y ∷ xs) h e = absurd (omega arith)
 
 -- where the bytes are not good sets, the drops are refused with them
 bad_named : (drops b : List ℕ) (t : Bool) → are_sets b ≡ t → (bad_drops drops (cond t (sets_said b) []) || not (eqb (length b) 0 || t)) ≡ (bad_drops drops (sets_said b) || not (eqb (length b) 0 || t))
@@ -58,6 +64,24 @@ bad_named drops (x ∷ xs) false e =
 pub all_named : (drops b : List ℕ) (bad sets : Bool) → bad ≡ bad_drops drops (named_sets b) → sets ≡ are_sets b → (bad || not (eqb (length b) 0 || sets)) ≡ (bad_drops drops (sets_said b) || not (fine_sets b))
 unfolding named_sets fine_sets
 all_named drops b bad sets e f = rw (e, f) (bad_named drops b (are_sets b) refl)
+
+-- the bytes are tested first: where they are no good sets nothing else counts, and else the drops alone
+module _ (drops b : List ℕ) (empty sets : Bool) (z : empty ≡ eqb (length b) 0) (f : sets ≡ are_sets b) where
+  pub no_sets : (empty || sets) ≡ false → not (empty || sets) ≡ (bad_drops drops (sets_said b) || not (fine_sets b))
+  no_sets t =
+      let bad : Bool = bad_drops drops (named_sets b) in
+      let n : (eqb (length b) 0 || sets) ≡ false = rw z at t in
+      ap not t ∙ sym (rw n (or-true bad)) ∙ all_named drops b bad sets refl f
+
+  pub some_sets : (empty || sets) ≡ true → (bad : Bool) → bad ≡ bad_drops drops (named_sets b) → bad ≡ (bad_drops drops (sets_said b) || not (fine_sets b))
+  some_sets t bad g =
+      let n : (eqb (length b) 0 || sets) ≡ true = rw z at t in
+      let alone : (bad || false) ≡ bad = go bad in
+      sym (rw n alone) ∙ all_named drops b bad sets g f
+    where
+      go : (x : Bool) → (x || false) ≡ x
+      go true = refl
+      go false = refl
 
 -- ---- the wish
 

@@ -28,7 +28,8 @@ fn are_outside(drops: &[u8]) -> bool
 fn name_dropped(sets: &[u8], drops: &[u8]) -> bool
     ensures { bad_drops drops.now [] ≡ false → result ≡ bad_drops drops.now (named_sets sets.now) }
 {
-    if sets.is_empty() {
+    // a count alone
+    if sets.len() < 2 {
         return false;
     }
     for u in 1..=Layout::LAST_UNIT {
@@ -50,7 +51,7 @@ fn drops_are_bad(drops: &[u8], sets: &[u8]) -> bool
 fn are_bad(drops: &[u8], sets: &[u8]) -> bool
     ensures { result ≡ (bad_drops drops.now (sets_said sets.now) || not (fine_sets sets.now)) }
 {
-    drops_are_bad(drops, sets) || !(sets.is_empty() | are_sets(sets))
+    !(sets.is_empty() | are_sets(sets)) || drops_are_bad(drops, sets)
 }
 
 // The first 16 new sets. An empty set, which no plan takes, stands for what is bad, also behind the 16th.

@@ -3,12 +3,12 @@ use Rattle.layout.specs.Lay.{in_sets}
 use Rattle.layout.proofs.Found.{contains_is}
 use Rattle.layout.proofs.Dropped.{named_bad, unnamed_first, unnamed_skip, unnamed_more, unnamed_all}
 use Rattle.desk.specs.InsideMade.{named_sets}
-use Rattle.desk.proofs.Wishes.{named_in, none_named}
+use Rattle.desk.proofs.Wishes.{named_in, few_named}
 use Rattle.desk.proofs.made.name_dropped.Goals.{else-contains-via-then-contains+else-sets_name, else-contains-via-else-contains}
 use Rattle.desk.proofs.made.name_dropped.Goals as goal
 
-pub returns-then-is_empty : goal.returns-then-is_empty
-returns-then-is_empty c = none_named c.args.drops.now c.args.sets.now (sym c.is_empty.ensures ∙ c.if-is_empty.true)
+pub returns-then-sets-lt2 : goal.returns-then-sets-lt2
+returns-then-sets-lt2 c = few_named c.args.drops.now c.args.sets.now c.if-sets-lt2.true
 
 pub returns-then-sets_name : goal.returns-then-sets_name
 returns-then-sets_name c =
